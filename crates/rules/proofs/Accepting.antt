@@ -1,0 +1,350 @@
+-- What an accepted list has: its limits, and gate by gate what each field may be.
+use mathlib.Core.Path.{_≡_, refl, sym, ap, _∙_}
+use mathlib.Core.Logic.{_≢_}
+use mathlib.Core.Bool.{Bool, true, false, not, _&&_, _||_, cond, or-true, false≢true}
+use mathlib.Core.List.{List, [], _∷_, _++_}
+use Prim.Native.Nat.{ℕ, zero, suc, _+_, _*_, _/_, _%_, _≤_, _<_, zero-le, suc-le-suc}
+use native.Mathlib.Nat.{not-suc-le-zero, le-of-suc-le-suc}
+use native.Mathlib.Omega.{arith}
+use borrow.Author.Tests.{ltb-true, ltb-false, leb-true, eqb-true, le-ltb, eq-eqb, not-false}
+use lib.Dec.{eqb, leb, ltb}
+use lib.IntN.{ℤ, pos, negsuc}
+use lib.ListN.{length, getD}
+use Rattle.rules.specs.Limits.{width, lastCode, maxGates, maxWires, maxBits, termWidth, stepWidth, termEntries, stepEntries}
+use Rattle.rules.specs.Gate.{Gate, from, second, bitted, third, turned}
+use Rattle.rules.specs.Numbers.{natOf, inside, same, field, gateAt, gatesFrom, gatesOf, numbersOf}
+use Rattle.rules.specs.Refusal.{Refusal, Verdict, accepted, refused, nought, unused, ranged, apart, ordered, faultOf, faultAt, faultsFrom, verdict}
+use Rattle.rules.proofs.Bits.{split}
+use Rattle.rules.proofs.Reading.{field-after, length-numbers, Natural, write-natural}
+
+-- ---- the list
+
+pub record Accepted (l : List ℤ) (w b out terms steps : ℕ) : Type 0 where
+  pub even : length l % width ≡ 0
+  pub few : length l / width ≤ maxGates
+  pub wires : w ≤ maxWires
+  pub bits : b ≤ maxBits
+  pub room : length l ≤ out
+  pub term-room : termEntries (length l / width) ≤ terms / termWidth
+  pub step-room : stepEntries (length l / width) ≤ steps / stepWidth
+  pub each : (i : ℕ) → i < length l / width → faultAt l w b i ≡ 0
+
+not-refused : (r : Refusal) → refused r ≡ accepted → ⊥
+not-refused r e = let z : _≡_ {A = ℕ} 0 1 = cc in omega arith
+
+past : (t : Bool) (r : Refusal) (v : Verdict) → cond t (refused r) v ≡ accepted → (t ≡ false) × (v ≡ accepted)
+past true r v e = absurd (not-refused r e)
+past false r v e = (refl, e)
+
+through : (t : Bool) (r : Refusal) (v : Verdict) → cond t v (refused r) ≡ accepted → (t ≡ true) × (v ≡ accepted)
+through true r v e = (refl, e)
+through false r v e = absurd (not-refused r e)
+
+neither : (s t : Bool) → (s || t) ≡ false → (s ≡ false) × (t ≡ false)
+neither false t h = (refl, h)
+neither true t h = absurd (false≢true (sym h))
+
+faults-each : (l : List ℤ) (w b n i : ℕ) → faultsFrom l w b n i ≡ accepted → (j : ℕ) → j < n → faultAt l w b (i + j) ≡ 0
+unfolding faultsFrom
+faults-each l w b zero i e j h = absurd (not-suc-le-zero h)
+faults-each l w b (suc n) i e zero h =
+    let z : i + zero ≡ i = omega arith in
+    rw z (eqb-true (faultAt l w b i) 0 (through (eqb (faultAt l w b i) 0) _ (faultsFrom l w b n (suc i)) e .0))
+faults-each l w b (suc n) i e (suc j) h =
+    let z : i + suc j ≡ suc i + j = omega arith in
+    rw z (faults-each l w b n (suc i) (through (eqb (faultAt l w b i) 0) _ (faultsFrom l w b n (suc i)) e .1) j (le-of-suc-le-suc h))
+
+each-faults : (l : List ℤ) (w b n i : ℕ) → ((j : ℕ) → j < n → faultAt l w b (i + j) ≡ 0) → faultsFrom l w b n i ≡ accepted
+unfolding faultsFrom
+each-faults l w b zero i h = refl
+each-faults l w b (suc n) i h =
+    let z : i + zero ≡ i = omega arith in
+    let now : faultAt l w b i ≡ 0 = rw z at (h zero (suc-le-suc zero-le)) in
+    rw now (each-faults l w b n (suc i) (λ j hj. let e : i + suc j ≡ suc i + j = omega arith in rw e at (h (suc j) (suc-le-suc hj))))
+
+pub accepted-is : (l : List ℤ) (w b out terms steps : ℕ) → verdict l w b out terms steps ≡ accepted → Accepted l w b out terms steps
+unfolding verdict
+accepted-is l w b out terms steps e =
+    let g : ℕ = length l / width in
+    let p1 = past (not (eqb (length l % width) 0)) _ _ e in
+    let p2 = past (ltb maxGates g) _ _ (p1 .1) in
+    let p3 = past (ltb maxWires w || ltb maxBits b) _ _ (p2 .1) in
+    let p4 = past (ltb out (length l)) _ _ (p3 .1) in
+    let p5 = past (ltb (terms / termWidth) (termEntries g) || ltb (steps / stepWidth) (stepEntries g)) _ _ (p4 .1) in
+    let n3 = neither (ltb maxWires w) (ltb maxBits b) (p3 .0) in
+    let n5 = neither (ltb (terms / termWidth) (termEntries g)) (ltb (steps / stepWidth) (stepEntries g)) (p5 .0) in
+    record {
+      even = eqb-true (length l % width) 0 (not-false (eqb (length l % width) 0) (p1 .0));
+      few = ltb-false maxGates g (p2 .0);
+      wires = ltb-false maxWires w (n3 .0);
+      bits = ltb-false maxBits b (n3 .1);
+      room = ltb-false out (length l) (p4 .0);
+      term-room = ltb-false (terms / termWidth) (termEntries g) (n5 .0);
+      step-room = ltb-false (steps / stepWidth) (stepEntries g) (n5 .1);
+      each = λ i h. let z : zero + i ≡ i = omega arith in rw z at (faults-each l w b g zero (p5 .1) i h);
+    }
+
+pub is-accepted : (l : List ℤ) (w b out terms steps : ℕ) → Accepted l w b out terms steps → verdict l w b out terms steps ≡ accepted
+unfolding verdict
+is-accepted l w b out terms steps a =
+    let g : ℕ = length l / width in
+    rw (
+      a .even,
+      le-ltb maxGates g (a .few),
+      le-ltb maxWires w (a .wires),
+      le-ltb maxBits b (a .bits),
+      le-ltb out (length l) (a .room),
+      le-ltb (terms / termWidth) (termEntries g) (a .term-room),
+      le-ltb (steps / stepWidth) (stepEntries g) (a .step-room),
+    )
+    (each-faults l w b g zero (λ j hj. let z : zero + j ≡ j = omega arith in rw z (a .each j hj)))
+
+-- ---- one gate
+
+-- what the fields of a gate that is not refused are, in numbers that `omega` reads
+pub record Fit (w b c x y z : ℕ) (t : ℤ) : Type 0 where
+  pub least : 1 ≤ c
+  pub most : c ≤ lastCode
+  pub first-in : x < w
+  pub second-in : second c ≡ true → y < w
+  pub bit-in : bitted c ≡ true → y < b
+  pub third-in : third c ≡ true → z < w
+  pub first-second : second c ≡ true → x ≢ y
+  pub first-third : third c ≡ true → x ≢ z
+  pub second-third : third c ≡ true → y ≢ z
+  pub no-second : second c ≡ false → bitted c ≡ false → y ≡ 0
+  pub no-third : third c ≡ false → z ≡ 0
+  pub no-turn : turned c ≡ false → t ≡ pos 0
+
+both : (s t : Bool) → (s && t) ≡ true → (s ≡ true) × (t ≡ true)
+both true t h = (refl, h)
+both false t h = absurd (false≢true h)
+
+given : (s t : Bool) → (not s || t) ≡ true → s ≡ true → t ≡ true
+given true t h e = h
+given false t h e = absurd (false≢true e)
+
+unless : (s t : Bool) → (s || t) ≡ true → s ≡ false → t ≡ true
+unless false t h e = h
+unless true t h e = absurd (false≢true (sym e))
+
+denied : (s t : Bool) → not (s && t) ≡ true → s ≡ true → t ≡ true → ⊥
+denied true true h e f = false≢true h
+denied true false h e f = false≢true f
+denied false t h e f = false≢true e
+
+ordered-none : (p q r s : Bool) → ordered p q r s ≡ 0 → (p ≡ true) × (q ≡ true) × (r ≡ true) × (s ≡ true)
+ordered-none true true true true h = (refl, refl, refl, refl)
+ordered-none true true true false h = absurd (omega arith)
+ordered-none true true false s h = absurd (omega arith)
+ordered-none true false r s h = absurd (omega arith)
+ordered-none false q r s h = absurd (omega arith)
+
+-- a number inside is no negative number
+inside-pos : (z : ℤ) (n : ℕ) → inside z n ≡ true → (pos (natOf z) ≡ z) × (natOf z < n)
+inside-pos (pos k) n h = (refl, ltb-true k n h)
+inside-pos (negsuc k) n h = absurd (false≢true h)
+
+nought-is : (z : ℤ) → nought z ≡ true → z ≡ pos 0
+nought-is (pos k) h = ap pos (eqb-true k 0 h)
+nought-is (negsuc k) h = absurd (false≢true h)
+
+coded-pos : (z : ℤ) → 1 ≤ natOf z → pos (natOf z) ≡ z
+coded-pos (pos k) h = refl
+coded-pos (negsuc k) h = absurd (omega arith)
+
+-- two such fields are the same where their numbers are
+same-pos : (x y : ℤ) → pos (natOf x) ≡ x → pos (natOf y) ≡ y → natOf x ≡ natOf y → same x y ≡ true
+same-pos x y p q e = rw (← p, ← q) (eq-eqb (natOf x) (natOf y) e)
+
+-- the four fields that are wires, bits or codes are no negative numbers
+pub record Signless (c x y z : ℤ) : Type 0 where
+  pub code : pos (natOf c) ≡ c
+  pub first : pos (natOf x) ≡ x
+  pub second : pos (natOf y) ≡ y
+  pub third : pos (natOf z) ≡ z
+
+-- what the four tests say, where none fails
+record Passed (w b : ℕ) (code x y z t : ℤ) : Type 0 where
+  coded : from 1 lastCode (natOf code) ≡ true
+  free : unused (natOf code) y z t ≡ true
+  range : ranged (natOf code) w b x y z ≡ true
+  distinct : apart (natOf code) x y z ≡ true
+
+module _ (w b : ℕ) (code x y z t : ℤ) (h : faultOf w b code x y z t ≡ 0) where
+  abbrev c : ℕ
+  c = natOf code
+
+  passed : Passed w b code x y z t
+  unfolding faultOf
+  passed =
+      let n = ordered-none (from 1 lastCode c) (unused c y z t) (ranged c w b x y z) (apart c x y z) h in
+      record { coded = n .0; free = n .1; range = n .2; distinct = n .3 }
+
+  code-in : (1 ≤ c) × (c ≤ lastCode)
+  code-in = let k = both (leb 1 c) (leb c lastCode) (passed .coded) in (leb-true 1 c (k .0), leb-true c lastCode (k .1))
+
+  first-is : inside x w ≡ true
+  first-is = both (inside x w) _ (passed .range) .0
+
+  second-is : second c ≡ true → inside y w ≡ true
+  second-is = given (second c) (inside y w) (both (not (second c) || inside y w) _ (both (inside x w) _ (passed .range) .1) .0)
+
+  last-two : ((not (bitted c) || inside y b) && (not (third c) || inside z w)) ≡ true
+  last-two = both (not (second c) || inside y w) _ (both (inside x w) _ (passed .range) .1) .1
+
+  bit-is : bitted c ≡ true → inside y b ≡ true
+  bit-is = given (bitted c) (inside y b) (both (not (bitted c) || inside y b) _ last-two .0)
+
+  third-is : third c ≡ true → inside z w ≡ true
+  third-is = given (third c) (inside z w) (both (not (bitted c) || inside y b) _ last-two .1)
+
+  second-none : second c ≡ false → bitted c ≡ false → y ≡ pos 0
+  second-none e f = nought-is y (unless (bitted c) (nought y) (unless (second c) (bitted c || nought y) (both (second c || (bitted c || nought y)) _ (passed .free) .0) e) f)
+
+  others : ((third c || nought z) && (turned c || nought t)) ≡ true
+  others = both (second c || (bitted c || nought y)) _ (passed .free) .1
+
+  third-none : third c ≡ false → z ≡ pos 0
+  third-none e = nought-is z (unless (third c) (nought z) (both (third c || nought z) _ others .0) e)
+
+  third-apart : third c ≡ true → (same x z || same y z) ≡ true → ⊥
+  third-apart = denied (third c) (same x z || same y z) (both (not (second c && same x y)) _ (passed .distinct) .1)
+
+  second-pos : pos (natOf y) ≡ y
+  second-pos =
+      split (second c)
+      (λ e. inside-pos y w (second-is e) .0)
+      (λ e. split (bitted c) (λ f. inside-pos y b (bit-is f) .0) (λ f. let z = second-none e f in ap (λ (u : ℤ). pos (natOf u)) z ∙ sym z))
+
+  third-pos : pos (natOf z) ≡ z
+  third-pos = split (third c) (λ e. inside-pos z w (third-is e) .0) (λ e. let u = third-none e in ap (λ (v : ℤ). pos (natOf v)) u ∙ sym u)
+
+  pub signless : Signless code x y z
+  signless = record { code = coded-pos code (code-in .0); first = inside-pos x w first-is .0; second = second-pos; third = third-pos }
+
+  pub fit : Fit w b c (natOf x) (natOf y) (natOf z) t
+  fit =
+      record {
+        least = code-in .0;
+        most = code-in .1;
+        first-in = inside-pos x w first-is .1;
+        second-in = λ s. inside-pos y w (second-is s) .1;
+        bit-in = λ s. inside-pos y b (bit-is s) .1;
+        third-in = λ s. inside-pos z w (third-is s) .1;
+        first-second = λ s e. denied (second c) (same x y) (both (not (second c && same x y)) _ (passed .distinct) .0) s (same-pos x y (signless .first) (signless .second) e);
+        first-third = λ s e. third-apart s (rw (same-pos x z (signless .first) (signless .third) e) refl);
+        second-third = λ s e. third-apart s (rw (same-pos y z (signless .second) (signless .third) e) (or-true (same x z)));
+        no-second = λ e f. ap natOf (second-none e f);
+        no-third = λ e. ap natOf (third-none e);
+        no-turn = λ e. nought-is t (unless (turned c) (nought t) (both (third c || nought z) _ others .1) e);
+      }
+
+-- ---- gates
+
+-- the gate's own five numbers are not refused
+abbrev pub Sound : ℕ → ℕ → Gate → Type 0
+Sound w b g = faultOf w b (pos (g .code)) (pos (g .first)) (pos (g .second)) (pos (g .third)) (g .turn) ≡ 0
+
+unfoldable pub SoundAll : ℕ → ℕ → List Gate → Type 0
+SoundAll w b [] = Unit {0}
+SoundAll w b (g ∷ gs) = Sound w b g × SoundAll w b gs
+
+pub sound-fit : (w b : ℕ) (g : Gate) → Sound w b g → Fit w b (g .code) (g .first) (g .second) (g .third) (g .turn)
+sound-fit w b g = fit w b (pos (g .code)) (pos (g .first)) (pos (g .second)) (pos (g .third)) (g .turn)
+
+pub sound-append : (w b : ℕ) (us vs : List Gate) → SoundAll w b us → SoundAll w b vs → SoundAll w b (us ++ vs)
+unfolding SoundAll
+sound-append w b [] vs h k = k
+sound-append w b (u ∷ us) vs h k = (h .0, sound-append w b us vs (h .1) k)
+
+pub sound-parts : (w b : ℕ) (us vs : List Gate) → SoundAll w b (us ++ vs) → SoundAll w b us × SoundAll w b vs
+unfolding SoundAll
+sound-parts w b [] vs h = (tt, h)
+sound-parts w b (u ∷ us) vs h = let r = sound-parts w b us vs (h .1) in ((h .0, r .0), r .1)
+
+pub sound-at : (w b : ℕ) (gs : List Gate) (i : ℕ) (d : Gate) → SoundAll w b gs → i < length gs → Sound w b (getD gs i d)
+unfolding SoundAll
+sound-at w b [] i d h k = absurd (not-suc-le-zero k)
+sound-at w b (g ∷ gs) zero d h k = h .0
+sound-at w b (g ∷ gs) (suc i) d h k = sound-at w b gs i d (h .1) (le-of-suc-le-suc k)
+
+-- ---- the gates of an accepted list
+
+pub fit-at : (l : List ℤ) (w b i : ℕ) → faultAt l w b i ≡ 0 → Fit w b (gateAt l i .code) (gateAt l i .first) (gateAt l i .second) (gateAt l i .third) (gateAt l i .turn)
+unfolding faultAt gateAt
+fit-at l w b i h = fit w b (field l i 0) (field l i 1) (field l i 2) (field l i 3) (field l i 4) h
+
+signless-at : (l : List ℤ) (w b i : ℕ) → faultAt l w b i ≡ 0 → Signless (field l i 0) (field l i 1) (field l i 2) (field l i 3)
+unfolding faultAt
+signless-at l w b i h = signless w b (field l i 0) (field l i 1) (field l i 2) (field l i 3) (field l i 4) h
+
+natural-at : (l : List ℤ) (w b i : ℕ) → faultAt l w b i ≡ 0 → Natural l i
+natural-at l w b i h k hk = go k hk (signless-at l w b i h)
+  where
+    go : (k : ℕ) → k < 4 → Signless (field l i 0) (field l i 1) (field l i 2) (field l i 3) → pos (natOf (field l i k)) ≡ field l i k
+    go zero hk s = s .code
+    go (suc zero) hk s = s .first
+    go (suc (suc zero)) hk s = s .second
+    go (suc (suc (suc zero))) hk s = s .third
+    go (suc (suc (suc (suc k)))) hk s = absurd (omega arith)
+
+signless-fault : (w b : ℕ) (c x y z t : ℤ) → Signless c x y z → faultOf w b (pos (natOf c)) (pos (natOf x)) (pos (natOf y)) (pos (natOf z)) t ≡ faultOf w b c x y z t
+signless-fault w b c x y z t s = rw (s .code, s .first, s .second, s .third)
+
+pub sound-gate : (l : List ℤ) (w b i : ℕ) → faultAt l w b i ≡ 0 → Sound w b (gateAt l i)
+unfolding faultAt gateAt
+sound-gate l w b i h = signless-fault w b (field l i 0) (field l i 1) (field l i 2) (field l i 3) (field l i 4) (signless-at l w b i h) ∙ h
+
+sound-from : (l : List ℤ) (w b n i : ℕ) → ((j : ℕ) → j < n → faultAt l w b (i + j) ≡ 0) → SoundAll w b (gatesFrom l n i)
+unfolding SoundAll gatesFrom
+sound-from l w b zero i h = tt
+sound-from l w b (suc n) i h =
+    let z : i + zero ≡ i = omega arith in (
+      sound-gate l w b i (rw z at (h zero (suc-le-suc zero-le))),
+      sound-from l w b n (suc i) (λ j hj. let e : i + suc j ≡ suc i + j = omega arith in rw e at (h (suc j) (suc-le-suc hj))),
+    )
+
+pub accepted-sound : (l : List ℤ) (w b out terms steps : ℕ) → verdict l w b out terms steps ≡ accepted → SoundAll w b (gatesOf l)
+unfolding gatesOf
+accepted-sound l w b out terms steps e =
+    sound-from l w b (length l / width) zero (λ j hj. let z : zero + j ≡ j = omega arith in rw z (accepted-is l w b out terms steps e .each j hj))
+
+-- an accepted list is its gates, written
+pub write-read : (l : List ℤ) (w b out terms steps : ℕ) → verdict l w b out terms steps ≡ accepted → numbersOf (gatesOf l) ≡ l
+write-read l w b out terms steps e =
+    let a = accepted-is l w b out terms steps e in
+    write-natural l (a .even) (λ i hi. natural-at l w b i (a .each i hi))
+
+-- ---- a list of sound gates, written
+
+fault-after : (c x y z t : ℤ) (l : List ℤ) (w b i : ℕ) → faultAt (c ∷ x ∷ y ∷ z ∷ t ∷ l) w b (suc i) ≡ faultAt l w b i
+unfolding faultAt
+fault-after c x y z t l w b i =
+    let f : (k : ℕ) → field (c ∷ x ∷ y ∷ z ∷ t ∷ l) (suc i) k ≡ field l i k = field-after c x y z t l i in
+    rw (f 0, f 1, f 2, f 3, f 4)
+
+pub sound-written : (w b : ℕ) (gs : List Gate) → SoundAll w b gs → (i : ℕ) → i < length gs → faultAt (numbersOf gs) w b i ≡ 0
+unfolding SoundAll numbersOf faultAt
+sound-written w b [] h i k = absurd (not-suc-le-zero k)
+sound-written w b (g ∷ gs) h zero k = h .0
+sound-written w b (g ∷ gs) h (suc i) k =
+    fault-after (pos (g .code)) (pos (g .first)) (pos (g .second)) (pos (g .third)) (g .turn) (numbersOf gs) w b i ∙ sound-written w b gs (h .1) i (le-of-suc-le-suc k)
+
+pub sound-accepted : (gs : List Gate) (w b out terms steps : ℕ) → SoundAll w b gs → length gs ≤ maxGates → w ≤ maxWires → b ≤ maxBits → width * length gs ≤ out
+    → termEntries (length gs) ≤ terms / termWidth → stepEntries (length gs) ≤ steps / stepWidth → verdict (numbersOf gs) w b out terms steps ≡ accepted
+sound-accepted gs w b out terms steps h few hw hb room ht hs =
+    let n : ℕ = length (numbersOf gs) in
+    let e : n ≡ width * length gs = length-numbers gs in
+    let q : n / width ≡ length gs = omega arith in
+    is-accepted (numbersOf gs) w b out terms steps
+    (record {
+      even = omega arith;
+      few = rw q few;
+      wires = hw;
+      bits = hb;
+      room = rw e room;
+      term-room = rw q ht;
+      step-room = rw q hs;
+      each = λ i hi. sound-written w b gs h i (omega arith);
+    })

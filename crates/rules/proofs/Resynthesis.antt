@@ -1,0 +1,84 @@
+-- Document 01's resynthesis is a lawful writer, so all that holds of any writer's pass holds of the pass.
+use mathlib.Core.Path.{_≡_, refl, subst}
+use mathlib.Core.List.{List, [], _∷_, _++_, map}
+use mathlib.Core.Option.{Option, none, some, Option·none-ne-some, Option·some-injective}
+use Prim.Native.Nat.{ℕ, zero, suc, _+_, _%_}
+use lib.ListN.{length, getD}
+use Rattle.rules.specs.Gate.{Gate}
+use Rattle.rules.specs.Meaning.{op, Alike}
+use Rattle.rules.specs.Fold.{Row, Block, empty, fold}
+use Rattle.rules.specs.Walk.{Step, cn, rot, phaseWalk, held}
+use Rattle.rules.specs.Close.{units, closing}
+use Rattle.rules.specs.Synth.{rotation, emit, flipsOf, withSteps, synth, blockOf, orElse, resynthesis}
+use Rattle.rules.specs.Scan.{Plain, Lawful}
+use Rattle.rules.specs.Promise.{Promised}
+use Rattle.rules.specs.Pass.{pass}
+use Rattle.rules.proofs.Bits.{split}
+use Rattle.rules.proofs.Blocks.{block-alike}
+use Rattle.rules.proofs.Passing.{plain-append, alike-refl, promised-by}
+
+-- ---- what is emitted is of the fragment
+
+plain-rotation : (k q : ℕ) → Plain (rotation k q)
+unfolding Plain rotation op
+plain-rotation zero q = tt
+plain-rotation (suc zero) q = (refl, tt)
+plain-rotation (suc (suc zero)) q = (refl, tt)
+plain-rotation (suc (suc (suc zero))) q = (refl, (refl, tt))
+plain-rotation (suc (suc (suc (suc zero)))) q = (refl, tt)
+plain-rotation (suc (suc (suc (suc (suc zero))))) q = (refl, (refl, tt))
+plain-rotation (suc (suc (suc (suc (suc (suc zero)))))) q = (refl, tt)
+plain-rotation (suc (suc (suc (suc (suc (suc (suc zero))))))) q = (refl, tt)
+plain-rotation (suc (suc (suc (suc (suc (suc (suc (suc k)))))))) q = tt
+
+plain-emit : (ws : List ℕ) (ss : List Step) → Plain (emit ws ss)
+unfolding Plain emit op
+plain-emit ws [] = tt
+plain-emit ws (cn p t ∷ ss) = (refl, plain-emit ws ss)
+plain-emit ws (rot q k ∷ ss) = plain-append (rotation (k % 8) (getD ws q zero)) (emit ws ss) (plain-rotation (k % 8) (getD ws q zero)) (plain-emit ws ss)
+
+plain-flips : (rs : List Row) → Plain (flipsOf rs)
+unfolding Plain flipsOf op
+plain-flips [] = tt
+plain-flips (r ∷ rs) = split (r .flips) (λ e. rw e (refl, plain-flips rs)) (λ e. rw e (plain-flips rs))
+
+pub plain-synth : (b : Block) (gs : List Gate) → synth b ≡ some gs → Plain gs
+unfolding synth
+plain-synth b gs e = go (closing (held w (units n zero)) (map (λ r. r .parity) (b .rows))) e
+  where
+    n : ℕ
+    n = length (b .rows)
+
+    ws : List ℕ
+    ws = map (λ r. r .wire) (b .rows)
+
+    w : List Step
+    w = phaseWalk n (b .terms)
+
+    go : (o : Option (List Step)) → withSteps o (λ c. emit ws (w ++ c) ++ flipsOf (b .rows)) ≡ some gs → Plain gs
+    go none f = absurd (Option·none-ne-some gs f)
+    go (some c) f =
+        subst Plain (Option·some-injective (emit ws (w ++ c) ++ flipsOf (b .rows)) gs f) (plain-append (emit ws (w ++ c)) (flipsOf (b .rows)) (plain-emit ws (w ++ c)) (plain-flips (b .rows)))
+
+-- ---- the law
+
+pub lawful : Lawful resynthesis
+unfolding resynthesis blockOf
+lawful =
+    record {
+      alike = λ gs h. alike gs (synth (fold (map op gs) empty)) refl;
+      plain = λ gs h. plain gs h (synth (fold (map op gs) empty)) refl;
+    }
+  where
+    alike : (gs : List Gate) (o : Option (List Gate)) → synth (fold (map op gs) empty) ≡ o → Alike (map op (orElse o gs)) (map op gs)
+    alike gs none e = alike-refl (map op gs)
+    alike gs (some new) e = block-alike (map op gs) new e
+
+    plain : (gs : List Gate) → Plain gs → (o : Option (List Gate)) → synth (fold (map op gs) empty) ≡ o → Plain (orElse o gs)
+    plain gs h none e = h
+    plain gs h (some new) e = plain-synth (fold (map op gs) empty) new e
+
+-- demand 3 of document 01's pass, for every list and any two caps
+pub promised : (q t : ℕ) (gs : List Gate) → Promised resynthesis q t gs (pass q t gs)
+unfolding pass
+promised q t gs = promised-by resynthesis lawful q t gs

@@ -1,0 +1,74 @@
+-- The small lists of document 01 that are marked P: one table, and the definitions give what it says.
+use mathlib.Core.Path.{_≡_, refl}
+use mathlib.Core.List.{List, [], _∷_, map}
+use Prim.Native.Nat.{ℕ, zero}
+use lib.IntN.{ℤ, pos, negsuc}
+use Rattle.rules.specs.Gate.{Gate, gate1, gate2, codeX, codeT, codeTdg, codeS, codeRz, codeCnot, codeCz}
+use Rattle.rules.specs.Bit.{xor}
+use Rattle.rules.specs.Scan.{Result}
+use Rattle.rules.specs.Pass.{pass}
+
+abbrev x : ℕ → Gate
+x q = gate1 codeX q
+
+abbrev t : ℕ → Gate
+t q = gate1 codeT q
+
+abbrev tdg : ℕ → Gate
+tdg q = gate1 codeTdg q
+
+abbrev s : ℕ → Gate
+s q = gate1 codeS q
+
+abbrev rz : ℤ → ℕ → Gate
+rz k q = record { code = codeRz; first = q; second = zero; third = zero; turn = k }
+
+abbrev cnot : ℕ → ℕ → Gate
+cnot p q = gate2 codeCnot p q
+
+abbrev cz : ℕ → ℕ → Gate
+cz p q = gate2 codeCz p q
+
+record Case : Type 0 where
+  qubits : ℕ
+  terms : ℕ
+  list : List Gate
+  result : List Gate
+  blocks : ℕ
+  replaced : ℕ
+
+abbrev plain : List Gate → List Gate → ℕ → ℕ → Case
+plain l r b k = record { qubits = 128; terms = 512; list = l; result = r; blocks = b; replaced = k }
+
+abbrev kept : List Gate → Case
+kept l = plain l l 1 0
+
+abbrev cases : List Case
+cases =
+    plain [] [] 0 0
+    ∷ kept (t 0 ∷ [])
+    ∷ plain (t 0 ∷ t 0 ∷ []) (s 0 ∷ []) 1 1
+    ∷ kept (rz (pos 1) 0 ∷ [])
+    ∷ plain (rz (negsuc 7) 0 ∷ []) [] 1 1
+    ∷ plain (x 0 ∷ t 0 ∷ x 0 ∷ []) (tdg 0 ∷ []) 1 1
+    ∷ plain (cnot 0 1 ∷ t 0 ∷ t 0 ∷ []) (s 0 ∷ cnot 0 1 ∷ []) 1 1
+    ∷ kept (cz 0 1 ∷ [])
+    ∷ kept (cz 0 1 ∷ cz 0 1 ∷ [])
+    ∷ kept (cnot 0 1 ∷ cnot 1 0 ∷ cnot 0 1 ∷ [])
+    ∷ plain (cnot 0 1 ∷ t 1 ∷ cnot 0 1 ∷ cnot 0 1 ∷ t 1 ∷ cnot 0 1 ∷ []) (cnot 0 1 ∷ s 1 ∷ cnot 0 1 ∷ []) 1 1
+    ∷ plain (rz (pos 3) 0 ∷ rz (pos 3) 1 ∷ cnot 0 1 ∷ cnot 0 1 ∷ []) (s 0 ∷ t 0 ∷ s 1 ∷ t 1 ∷ []) 1 1
+    ∷ kept (rz (pos 3) 0 ∷ rz (pos 3) 1 ∷ rz (pos 3) 2 ∷ cnot 0 1 ∷ cnot 0 1 ∷ [])
+    ∷ record { qubits = 1; terms = 512; list = t 0 ∷ t 0 ∷ cnot 0 1 ∷ t 0 ∷ t 0 ∷ []; result = s 0 ∷ cnot 0 1 ∷ s 0 ∷ []; blocks = 2; replaced = 2 }
+    ∷ record { qubits = 128; terms = 1; list = rz (pos 0) 0 ∷ t 1 ∷ []; result = t 1 ∷ []; blocks = 2; replaced = 1 }
+    ∷ []
+
+-- what the pass gives, and what the table says
+abbrev got : Case → Result
+got c = pass (c .qubits) (c .terms) (c .list)
+
+abbrev wanted : Case → Result
+wanted c = record { gates = c .result; blocks = c .blocks; replaced = c .replaced }
+
+pub table : map got cases ≡ map wanted cases
+unfolding pass xor
+table = refl
