@@ -1,0 +1,3 @@
+-- Laws that belong to no one function: those of columns, for callers, and those of two words.
+pub mod Laws
+pub mod Words
