@@ -22,9 +22,11 @@ impl Budget {
         requires { ⌜ (self .two < 2 ^ 63) × (self .all < 2 ^ 63) ⌝ }
         ensures { λ r. ⌜ view r ≡ counts pair (view self) ⌝ }
     {
+        let two = (pair as usize) + self.two;
+        let all = 1 + self.all;
         Budget {
-            two: (pair as usize) + self.two,
-            all: 1 + self.all,
+            two,
+            all,
             maxtwo: self.maxtwo,
             maxall: self.maxall,
         }

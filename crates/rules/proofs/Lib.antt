@@ -21,3 +21,4 @@ pub mod Accepting
 pub mod Output
 pub mod Turning
 pub mod Choosing
+pub mod Cases

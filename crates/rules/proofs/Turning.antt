@@ -12,6 +12,7 @@ use Rattle.rules.specs.Walk.{Step, Aim, free, on, owes, Node, best, side
 use Rattle.rules.proofs.Bits.{split}
 use Rattle.rules.proofs.Walking.{pay, tally, tally-le, tally-rest, best-ok}
 use Rattle.rules.proofs.Machine.{node, length-sides, length-cross}
+use Rattle.rules.proofs.Shuffling.{shuffled-length, Stacked, none, more, stacked-walk}
 use Rattle.rules.proofs.Depth.{Stairs, stairs-turn, stairs-first}
 
 -- turns that a node and the nodes after its splits can take, at most
@@ -28,7 +29,7 @@ weight-cross n p t (d ∷ st) = rw (length-cross p t (d .set), weight-cross n p 
 open-lighter : (n cs : ℕ) (a : Aim) (e : Term) (es : List Term) (st : List Node) → length (pay a) ≡ 0 → ((c : ℕ) → length (pay (aimWith a c)) ≤ 1)
     → Stairs n (node cs a (e ∷ es) ∷ st) → weight n (openNode n cs a (e ∷ es) st .stack) < weight n (node cs a (e ∷ es) ∷ st)
 unfolding weight openNode Stairs
-open-lighter n cs a e es st none one h =
+open-lighter n cs a e es st quiet one h =
     split (isNone cs)
     (λ q. rw q (omega arith))
     (λ q.
@@ -38,7 +39,7 @@ open-lighter n cs a e es st none one h =
     let less = tally-rest n cs c (b .0) (b .1) in
     let sides = length-sides c ts in
     rw q (lighter (tally n (bit (xor cs (2 ^ c)))) (tally n (bit cs)) (length (side false c ts)) (length (side true c ts)) (length es)
-    (length (pay a)) (length (pay (aimWith a c))) (weight n st) less sides none (one c)))
+    (length (pay a)) (length (pay (aimWith a c))) (weight n st) less sides quiet (one c)))
   where
     lighter : (k t lz lo l p o w : ℕ) → suc k ≡ t → lz + lo ≡ suc l → p ≡ 0 → o ≤ 1
         → 3 * k * lz + 1 + p + (3 * k * lo + 1 + o + w) < 3 * t * suc l + 1 + p + w
@@ -107,3 +108,14 @@ left-first n ts = walk-idle n (enough n (length (nonzero ts))) (weight n st) st 
     fits h =
         let three : 3 * tally n (bit (2 ^ n - 1)) ≤ 3 * n = omega arith in
         omega (arith, mul-le-mul-right (length (nonzero ts)) three)
+
+-- ---- the order within each set doesn't show
+
+weight-stacked : (n : ℕ) {st su : List Node} → Stacked st su → weight n st ≡ weight n su
+unfolding weight
+weight-stacked n none = refl
+weight-stacked n (more h k) = rw (shuffled-length h, weight-stacked n k)
+
+pub left-stacked : (n : ℕ) {st su : List Node} → Stacked st su → left n st ≡ left n su
+unfolding left
+left-stacked n {st} {su} h = stacked-walk n (weight n st) h ∙ ap (λ (f : ℕ). walk n f su) (weight-stacked n h)

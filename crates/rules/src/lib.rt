@@ -1,9 +1,9 @@
-// The crate that carries the definitions of document 01 and their theorems; of code, only the limits that it fixes.
+// The crate that carries the definitions of document 01 and their theorems; of code, only the numbers that it fixes, each by name and once.
 ghost use mathlib.Core.Path.{_≡_};
 ghost use Rattle.rules.specs.Limits as Limits;
 
 // Numbers to a gate.
-pub const WIDTH: usize = 5;
+pub const GATE_WIDTH: usize = 5;
 
 pub const MAX_GATES: usize = 8192;
 
@@ -13,6 +13,32 @@ pub const MAX_BITS: usize = 1024;
 
 // Wires of one block.
 pub const MAX_COLUMNS: usize = 128;
+
+// Numbers to an entry of term room and of step room, and the term entries that a gate needs.
+pub const TERM_WIDTH: usize = 3;
+
+pub const STEP_WIDTH: usize = 2;
+
+pub const GATE_TERMS: usize = 3;
+
+// The fragment's codes.
+pub const CODE_X: u32 = 1;
+
+pub const CODE_T: u32 = 2;
+
+pub const CODE_TDG: u32 = 3;
+
+pub const CODE_S: u32 = 4;
+
+pub const CODE_SDG: u32 = 5;
+
+pub const CODE_Z: u32 = 6;
+
+pub const CODE_RZ: u32 = 7;
+
+pub const CODE_CNOT: u32 = 8;
+
+pub const CODE_CZ: u32 = 9;
 
 // The limits in one value, so that one statement says that the code's are document 01's.
 pub struct Fixed {
@@ -27,7 +53,7 @@ pub fn limits() -> Fixed
     ensures { λ r. ⌜ r ≡ record { width = Limits.width; gates = Limits.maxGates; wires = Limits.maxWires; bits = Limits.maxBits; columns = Limits.maxColumns } ⌝ }
 {
     Fixed {
-        width: WIDTH,
+        width: GATE_WIDTH,
         gates: MAX_GATES,
         wires: MAX_WIRES,
         bits: MAX_BITS,

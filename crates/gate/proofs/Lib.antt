@@ -1,0 +1,4 @@
+mod Tests
+mod Steps
+mod Tally
+pub mod Placing

@@ -1,0 +1,70 @@
+-- The machine's tests of signed numbers, as the definitions have them.
+use mathlib.Core.Path.{_≡_, refl, sym, ap, _∙_}
+use mathlib.Core.Bool.{true, false, true≢false}
+use mathlib.Core.List.{List}
+use Prim.Native.Nat.{ℕ, suc, _-_, _*_, _^_, _<_}
+use native.Mathlib.Nat.{add-zero}
+use native.Mathlib.Omega.{arith}
+use borrow.Author.Tests.{ltb-true, eqb-true, eqb-false, eq-eqb, ne-eqb}
+use lib.Dec.{T, eqb, ltb}
+use lib.IntN.{ℤ, pos, negsuc, natAbs}
+use lib.Signed.{ltZ, nonNeg, mag}
+use lib.ListN.{getD}
+use mir.Syntax.{w32}
+use mir.Val.{toZ, ofZ, SFits}
+use mir.ValLaws.{toZ-ofZ}
+use Rattle.rules.specs.Limits.{width}
+use Rattle.rules.specs.Numbers.{natOf, inside, same, field}
+use Rattle.rules.proofs.Bits.{split}
+
+-- z is below 0
+pub nat-no : (z : ℤ) → ltZ z (pos 0) ≡ true → 0 ≡ natOf z
+nat-no (pos n) h = absurd (omega (arith, ltb-true n 0 h))
+nat-no (negsuc n) h = refl
+
+pub inside-no : (z : ℤ) (n : ℕ) → ltZ z (pos 0) ≡ true → false ≡ inside z n
+inside-no (pos k) n h = absurd (omega (arith, ltb-true k 0 h))
+inside-no (negsuc k) n h = refl
+
+-- z is not below 0
+pub not-below : (z : ℤ) → ltZ z (pos 0) ≡ false → T (nonNeg z)
+not-below (pos n) h = tt
+not-below (negsuc n) h = absurd (true≢false h)
+
+pub nat-yes : (z : ℤ) → ltZ z (pos 0) ≡ false → natAbs z ≡ natOf z
+nat-yes (pos n) h = refl
+nat-yes (negsuc n) h = absurd (true≢false h)
+
+pub inside-yes : (z : ℤ) (n : ℕ) → ltZ z (pos 0) ≡ false → ltb (natAbs z) n ≡ inside z n
+inside-yes (pos k) n h = refl
+inside-yes (negsuc k) n h = absurd (true≢false h)
+
+-- two tests that hold together are equal
+same-test : (a b c d : ℕ) → (a ≡ b → c ≡ d) → (c ≡ d → a ≡ b) → eqb a b ≡ eqb c d
+same-test a b c d f g =
+    split (eqb a b) (λ e. rw e (sym (eq-eqb c d (f (eqb-true a b e))))) (λ e. rw e (sym (ne-eqb c d (λ q. eqb-false a b e (g q)))))
+
+-- the machine compares bits
+pub same-bits : (x y : ℤ) → SFits w32 x → SFits w32 y → eqb (ofZ w32 x) (ofZ w32 y) ≡ same x y
+same-bits (pos a) (pos b) f g = refl
+same-bits (pos a) (negsuc b) f g = ne-eqb a (2 ^ 32 - suc b) (λ (e : a ≡ 2 ^ 32 - suc b). omega arith)
+same-bits (negsuc a) (pos b) f g = ne-eqb (2 ^ 32 - suc a) b (λ (e : 2 ^ 32 - suc a ≡ b). omega arith)
+same-bits (negsuc a) (negsuc b) f g = same-test (2 ^ 32 - suc a) (2 ^ 32 - suc b) a b (λ e. omega arith) (λ e. omega arith)
+
+-- what the machine reads back from a number of a list
+pub back : (l : List ℤ) (j : ℕ) → mag (getD l j (pos 0)) < 2 ^ 31 → toZ w32 (ofZ w32 (getD l j (pos 0))) ≡ getD l j (pos 0)
+back l j h = toZ-ofZ w32 (getD l j (pos 0)) (record { sfits = h })
+
+-- a gate's code stands first
+pub code-at : (l : List ℤ) (i : ℕ) → getD l (width * i) (pos 0) ≡ field l i 0
+code-at l i = ap (λ (j : ℕ). getD l j (pos 0)) (sym (add-zero (width * i)))
+
+nat-lt : (z : ℤ) → mag z < 2 ^ 31 → natOf z < 2 ^ 31
+nat-lt (pos n) h = h
+nat-lt (negsuc n) h = omega arith
+
+-- a number that `nat` reads from a list
+pub read-at : (l : List ℤ) (j r : ℕ) → mag (getD l j (pos 0)) < 2 ^ 31 → r ≡ natOf (toZ w32 (ofZ w32 (getD l j (pos 0)))) → (r ≡ natOf (getD l j (pos 0))) × (r < 2 ^ 31)
+read-at l j r h e =
+    let f : r ≡ natOf (getD l j (pos 0)) = e ∙ ap natOf (back l j h) in
+    (f, rw f (nat-lt (getD l j (pos 0)) h))

@@ -1,0 +1,43 @@
+-- `gate::fault` meets its contract.
+use mir.ValLaws.{toZ-ofZ}
+use mir.Syntax.{w32}
+use Rattle.rules.specs.Refusal.{faultOf}
+use borrow.Author.Needs.{needs}
+use Rattle.gate.proofs.fault.Statement.{statement}
+use Rattle.gate.proofs.fault.Tie as tie
+
+nat-requires : tie.Need-nat-requires
+nat-requires c κs = search needs
+
+from-requires : tie.Need-from-requires
+from-requires c κs = search needs
+
+unused-requires : tie.Need-unused-requires
+unused-requires c κs = search needs
+
+ranged-requires : tie.Need-ranged-requires
+ranged-requires c κs = search needs
+
+apart-requires : tie.Need-apart-requires
+apart-requires c κs = search needs
+
+ordered-requires : tie.Need-ordered-requires
+ordered-requires c κs = search needs
+
+returns : tie.Need-returns
+unfolding faultOf
+returns c =
+    let s = c .before .before .before .before .before .before in
+    cc (toZ-ofZ w32 (s .args .code) (s .fits .code), toZ-ofZ w32 (s .args .x) (s .fits .x), toZ-ofZ w32 (s .args .y) (s .fits .y), toZ-ofZ w32 (s .args .z) (s .fits .z), toZ-ofZ w32 (s .args .t) (s .fits .t))
+
+pub fault-spec : {M : Type 1} → statement M
+fault-spec =
+    tie.close
+    (tie.spec
+    nat-requires
+    from-requires
+    unused-requires
+    ranged-requires
+    apart-requires
+    ordered-requires
+    returns)

@@ -1,0 +1,310 @@
+// Gates as numbers: the check of a list, a gate read and written, and counts.
+use rules::CODE_CNOT;
+use rules::CODE_CZ;
+use rules::CODE_RZ;
+use rules::CODE_T;
+use rules::CODE_TDG;
+use rules::CODE_X;
+use rules::GATE_TERMS;
+use rules::GATE_WIDTH;
+use rules::MAX_BITS;
+use rules::MAX_COLUMNS;
+use rules::MAX_GATES;
+use rules::MAX_WIRES;
+use rules::STEP_WIDTH;
+use rules::TERM_WIDTH;
+ghost use mathlib.Core.Path.{_≡_};
+ghost use Prim.Native.Nat.{_+_, _*_, _≤_};
+ghost use lib.ListN.{length};
+ghost use Rattle.rules.specs.Limits.{width};
+ghost use Rattle.rules.specs.Gate as Codes;
+ghost use Rattle.rules.specs.Numbers as Numbers;
+ghost use Rattle.rules.specs.Refusal as Refusals;
+ghost use Rattle.rules.specs.Counts.{twos, ts};
+ghost use Rattle.gate.specs.Told.{told};
+ghost use Rattle.gate.specs.Reading.{Reads};
+ghost use Rattle.gate.specs.Writing.{placed, gateOf, Small};
+ghost use Rattle.gate.specs.Counting.{having};
+
+// The opaque codes at which a run of the table begins or ends.
+const CODE_P: u32 = 14;
+
+const CODE_RY: u32 = 16;
+
+const CODE_SWAP: u32 = 17;
+
+const CODE_CP: u32 = 20;
+
+const CODE_CRZ: u32 = 23;
+
+const CODE_CCX: u32 = 24;
+
+const CODE_CSWAP: u32 = 26;
+
+const CODE_MEASURE: u32 = 27;
+
+// The refusal's number in document 01's table, and its place.
+pub struct Refusal {
+    pub number: u8,
+    pub place: usize,
+}
+
+pub enum Verdict {
+    Accepted,
+    Refused(Refusal),
+}
+
+// A gate in unsigned numbers, its turn from 0 to 7.
+pub struct Gate {
+    pub code: u32,
+    pub first: u32,
+    pub second: u32,
+    pub third: u32,
+    pub turn: u8,
+}
+
+// ---- signed numbers: the only functions that look into them
+
+// The number, and 0 for a negative one.
+pub fn nat(x: i32) -> u32
+    ensures { λ r. ⌜ r ≡ Numbers.natOf x ⌝ }
+{
+    if x < 0 { 0 } else { x as u32 }
+}
+
+// Whether it is one of 0 to n - 1.
+pub fn inside(x: i32, n: usize) -> bool
+    ensures { λ r. ⌜ r ≡ Numbers.inside x n ⌝ }
+{
+    if x < 0 { false } else { (x as usize) < n }
+}
+
+pub fn same(x: i32, y: i32) -> bool
+    ensures { λ r. ⌜ r ≡ Numbers.same x y ⌝ }
+{
+    x == y
+}
+
+// ---- which fields a code uses: tests without a branch
+
+// Whether the code is one of a to e.
+fn from(a: u32, e: u32, c: u32) -> bool
+    ensures { λ r. ⌜ r ≡ Codes.from a e c ⌝ }
+{
+    (a <= c) & (c <= e)
+}
+
+// `second` is a wire.
+fn second(c: u32) -> bool
+    ensures { λ r. ⌜ r ≡ Codes.second c ⌝ }
+{
+    from(CODE_CNOT, CODE_CZ, c) | from(CODE_SWAP, CODE_CSWAP, c)
+}
+
+// `second` is a classical bit.
+fn bitted(c: u32) -> bool
+    ensures { λ r. ⌜ r ≡ Codes.bitted c ⌝ }
+{
+    c == CODE_MEASURE
+}
+
+// `third` is a wire.
+fn third(c: u32) -> bool
+    ensures { λ r. ⌜ r ≡ Codes.third c ⌝ }
+{
+    from(CODE_CCX, CODE_CSWAP, c)
+}
+
+// `turn` is used.
+fn turned(c: u32) -> bool
+    ensures { λ r. ⌜ r ≡ Codes.turned c ⌝ }
+{
+    (c == CODE_RZ) | (from(CODE_P, CODE_RY, c) | from(CODE_CP, CODE_CRZ, c))
+}
+
+// ---- the check of one gate: a test for each of 6 to 9
+
+// Not 7: the fields that the code does not use are 0.
+fn unused(c: u32, y: i32, z: i32, t: i32) -> bool
+    ensures { λ r. ⌜ r ≡ Refusals.unused c y z t ⌝ }
+{
+    (second(c) | (bitted(c) | same(y, 0))) & ((third(c) | same(z, 0)) & (turned(c) | same(t, 0)))
+}
+
+// Not 8: wires are below the wires, a measure's bit is below the bits.
+fn ranged(c: u32, wires: usize, bits: usize, x: i32, y: i32, z: i32) -> bool
+    ensures { λ r. ⌜ r ≡ Refusals.ranged c wires bits x y z ⌝ }
+{
+    inside(x, wires)
+        & ((!second(c) | inside(y, wires))
+            & ((!bitted(c) | inside(y, bits)) & (!third(c) | inside(z, wires))))
+}
+
+// Not 9: no wire stands twice.
+fn apart(c: u32, x: i32, y: i32, z: i32) -> bool
+    ensures { λ r. ⌜ r ≡ Refusals.apart c x y z ⌝ }
+{
+    !(second(c) & same(x, y)) & !(third(c) & (same(x, z) | same(y, z)))
+}
+
+// The first that fails, or 0.
+fn ordered(coded: bool, unused: bool, ranged: bool, apart: bool) -> u8
+    ensures { λ r. ⌜ r ≡ Refusals.ordered coded unused ranged apart ⌝ }
+{
+    if !coded {
+        6
+    } else if !unused {
+        7
+    } else if !ranged {
+        8
+    } else if !apart {
+        9
+    } else {
+        0
+    }
+}
+
+fn fault(wires: usize, bits: usize, code: i32, x: i32, y: i32, z: i32, t: i32) -> u8
+    ensures { λ r. ⌜ r ≡ Refusals.faultOf wires bits code x y z t ⌝ }
+{
+    let c = nat(code);
+    ordered(
+        from(CODE_X, CODE_MEASURE, c),
+        unused(c, y, z, t),
+        ranged(c, wires, bits, x, y, z),
+        apart(c, x, y, z),
+    )
+}
+
+// The refusal of the gate at a place, 6 to 9, or 0 for none.
+pub fn fault_at(list: &[i32], wires: usize, bits: usize, i: usize) -> u8
+    requires { ⌜ width * i + width ≤ length (now list) ⌝ }
+    ensures { λ r. ⌜ r ≡ Refusals.faultAt (now (list .entry)) wires bits i ⌝ }
+{
+    let at = GATE_WIDTH * i;
+    fault(
+        wires,
+        bits,
+        list[at],
+        list[at + 1],
+        list[at + 2],
+        list[at + 3],
+        list[at + 4],
+    )
+}
+
+// ---- the check of a list
+
+// Every refusal is made here.
+fn refused(number: u8, place: usize) -> Verdict
+    ensures { λ r. ⌜ told r ≡ Refusals.refused (record { number = number; place = place }) ⌝ }
+{
+    Verdict::Refused(Refusal { number, place })
+}
+
+// The first n gates, in list order.
+fn check_gates(list: &[i32], wires: usize, bits: usize, n: usize) -> Verdict
+    requires { ⌜ width * n ≤ length (now list) ⌝ }
+    ensures { λ r. ⌜ told r ≡ Refusals.faultsFrom (now (list .entry)) wires bits n 0 ⌝ }
+{
+    let mut i = 0;
+    while i < n {
+        let number = fault_at(list, wires, bits, i);
+        if number != 0 {
+            return refused(number, i);
+        }
+        i += 1;
+    }
+    Verdict::Accepted
+}
+
+// The list against the limits and the rooms, which are given by how many numbers they hold, then its gates.
+pub fn check_list(
+    list: &[i32],
+    wires: usize,
+    bits: usize,
+    out: usize,
+    terms: usize,
+    steps: usize,
+) -> Verdict
+    ensures { λ r. ⌜ told r ≡ Refusals.verdict (now (list .entry)) wires bits out terms steps ⌝ }
+{
+    let n = list.len();
+    let g = n / GATE_WIDTH;
+    if n % GATE_WIDTH != 0 {
+        return refused(1, 0);
+    }
+    if MAX_GATES < g {
+        return refused(2, 0);
+    }
+    if (MAX_WIRES < wires) | (MAX_BITS < bits) {
+        return refused(3, 0);
+    }
+    if out < n {
+        return refused(4, 0);
+    }
+    if (terms / TERM_WIDTH < GATE_TERMS * g) | (steps / STEP_WIDTH < g + MAX_COLUMNS) {
+        return refused(5, 0);
+    }
+    check_gates(list, wires, bits, g)
+}
+
+// ---- a gate read and written: the passes see no signed numbers
+
+pub fn read(list: &[i32], i: usize) -> Gate
+    requires { ⌜ width * i + width ≤ length (now list) ⌝ }
+    ensures { λ r. ⌜ Reads (Numbers.gateAt (now (list .entry)) i) r ⌝ }
+{
+    let at = GATE_WIDTH * i;
+    Gate {
+        code: nat(list[at]),
+        first: nat(list[at + 1]),
+        second: nat(list[at + 2]),
+        third: nat(list[at + 3]),
+        turn: turn::reduce(list[at + 4]),
+    }
+}
+
+pub fn write(out: &mut [i32], i: usize, g: Gate)
+    requires { ⌜ width * i + width ≤ length (now out) ⌝ }
+    requires { ⌜ Small g ⌝ }
+    ensures { λ r. ⌜ now (out .exit) ≡ placed (now (out .entry)) i (gateOf g) ⌝ }
+{
+    let at = GATE_WIDTH * i;
+    out[at] = g.code as i32;
+    out[at + 1] = g.first as i32;
+    out[at + 2] = g.second as i32;
+    out[at + 3] = g.third as i32;
+    out[at + 4] = g.turn as i32;
+}
+
+// ---- counts
+
+// The gates whose code is one of two. The sum moves by the test, so that the loop has no branch on data.
+fn count(list: &[i32], a: u32, b: u32) -> usize
+    ensures { λ r. ⌜ r ≡ having a b (Numbers.gatesOf (now (list .entry))) ⌝ }
+{
+    let n = list.len() / GATE_WIDTH;
+    let mut sum: usize = 0;
+    let mut i = 0;
+    while i < n {
+        let c = nat(list[GATE_WIDTH * i]);
+        sum += ((c == a) | (c == b)) as usize;
+        i += 1;
+    }
+    sum
+}
+
+// CNOT and CZ.
+pub fn count_two(list: &[i32]) -> usize
+    ensures { λ r. ⌜ r ≡ twos (Numbers.gatesOf (now (list .entry))) ⌝ }
+{
+    count(list, CODE_CNOT, CODE_CZ)
+}
+
+// t and tdg.
+pub fn count_t(list: &[i32]) -> usize
+    ensures { λ r. ⌜ r ≡ ts (Numbers.gatesOf (now (list .entry))) ⌝ }
+{
+    count(list, CODE_T, CODE_TDG)
+}

@@ -1,0 +1,55 @@
+-- Worked lists for the refusals 1 to 9 and for none, by computing: one table, one statement.
+use mathlib.Core.Path.{_≡_, refl}
+use mathlib.Core.List.{List, [], _∷_, _++_, map}
+use Prim.Native.Nat.{ℕ, _+_, _*_}
+use lib.IntN.{ℤ, pos, negsuc}
+use lib.ListN.{replicate}
+use Rattle.rules.specs.Limits.{width, maxGates, maxWires}
+use Rattle.rules.specs.Refusal.{Verdict, accepted, refused, whole, verdict}
+
+-- a list on two wires and one bit, and what is said of it
+pub record Case : Type 0 where
+  pub list : List ℤ
+  pub wires : ℕ
+  pub out : ℕ
+  pub terms : ℕ
+  pub steps : ℕ
+  pub answer : Verdict
+
+abbrev pub gate : ℕ → ℤ → ℤ → ℤ → ℤ → List ℤ
+gate c x y z t = pos c ∷ x ∷ y ∷ z ∷ t ∷ []
+
+-- t on wire 0
+abbrev pub t0 : List ℤ
+t0 = gate 2 (pos 0) (pos 0) (pos 0) (pos 0)
+
+-- two gates, of which the second, at place 1, is in question
+abbrev pub pair : List ℤ → Verdict → Case
+pair g v = record { list = t0 ++ g; wires = 2; out = 10; terms = 18; steps = 260; answer = v }
+
+abbrev pub second : ℕ → List ℤ → Case
+second k g = pair g (refused (record { number = k; place = 1 }))
+
+abbrev pub cases : List Case
+cases =
+    -- rz by -8, and a measure whose bit equals its wire
+    pair (gate 7 (pos 1) (pos 0) (pos 0) (negsuc 7)) accepted
+    ∷ pair (gate 27 (pos 0) (pos 0) (pos 0) (pos 0)) accepted
+    -- a number too few; a gate too many; a wire too many; output, term and step room a number short
+    ∷ pair (pos 2 ∷ []) (whole 1)
+    ∷ record { list = replicate (width * maxGates + width) (pos 0); wires = 2; out = 10; terms = 18; steps = 260; answer = whole 2 }
+    ∷ record { list = []; wires = maxWires + 1; out = 0; terms = 0; steps = 256; answer = whole 3 }
+    ∷ record { list = t0; wires = 2; out = 4; terms = 9; steps = 258; answer = whole 4 }
+    ∷ record { list = t0; wires = 2; out = 5; terms = 8; steps = 258; answer = whole 5 }
+    ∷ record { list = t0; wires = 2; out = 5; terms = 9; steps = 257; answer = whole 5 }
+    -- no such code; a turn on t; a wire and a bit out of range; a wire twice
+    ∷ second 6 (gate 28 (pos 0) (pos 0) (pos 0) (pos 0))
+    ∷ second 7 (gate 2 (pos 2) (pos 0) (pos 0) (pos 1))
+    ∷ second 8 (gate 8 (pos 2) (pos 2) (pos 0) (pos 0))
+    ∷ second 8 (gate 27 (pos 0) (pos 1) (pos 0) (pos 0))
+    ∷ second 9 (gate 8 (pos 1) (pos 1) (pos 0) (pos 0))
+    ∷ []
+
+pub worked : map (λ (c : Case). verdict (c .list) (c .wires) 1 (c .out) (c .terms) (c .steps)) cases ≡ map (λ (c : Case). c .answer) cases
+unfolding verdict
+worked = refl
