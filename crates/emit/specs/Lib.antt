@@ -1,0 +1,3 @@
+-- What an emission promises.
+pub mod Emitted
+pub mod Turns

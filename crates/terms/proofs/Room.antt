@@ -1,0 +1,78 @@
+-- The view of a room of numbers as terms.
+--     room-length    how many terms a room has
+--     room-enough    a term's three numbers stand in the room
+--     room-get       they are the term
+--     room-put       storing three numbers stores the term
+use mathlib.Core.Path.{_≡_, refl, ap}
+use mathlib.Core.List.{List, [], _∷_, _++_}
+use Prim.Native.Nat.{ℕ, zero, suc, _+_, _-_, _*_, _/_, _^_, _≤_, _<_}
+use native.Mathlib.Nat.{not-suc-le-zero, le-of-suc-le-suc}
+use native.Mathlib.Omega.{arith}
+use lib.ListN.{length, getD, set, take, drop}
+use Rattle.rules.specs.Fold.{Term}
+use Rattle.terms.specs.Terms.{termsOf, noTerm}
+
+pub room-length : (xs : List ℕ) → length (termsOf xs) ≡ length xs / 3
+unfolding termsOf
+room-length [] = refl
+room-length (a ∷ []) = refl
+room-length (a ∷ b ∷ []) = refl
+room-length (a ∷ b ∷ c ∷ xs) = let h = room-length xs in omega arith
+
+pub room-enough : (xs : List ℕ) (i : ℕ) → i < length (termsOf xs) → 3 * i + 2 < length xs
+room-enough xs i l = let h = room-length xs in omega arith
+
+-- rooms of one length have as many terms
+pub room-same : (xs ys : List ℕ) → length xs ≡ length ys → length (termsOf xs) ≡ length (termsOf ys)
+room-same xs ys e = omega (arith, room-length xs, room-length ys)
+
+-- the three numbers of a term that is one further on
+after : (i : ℕ) → (3 * suc i ≡ suc (suc (suc (3 * i)))) × ((3 * suc i + 1 ≡ suc (suc (suc (3 * i + 1)))) × (3 * suc i + 2 ≡ suc (suc (suc (3 * i + 2)))))
+after i = (omega arith, (omega arith, omega arith))
+
+pub room-get : (xs : List ℕ) (i : ℕ) → i < length (termsOf xs)
+    → record { parity = getD xs (3 * i + 1) 0 * 2 ^ 64 + getD xs (3 * i) 0; turn = getD xs (3 * i + 2) 0 } ≡ getD (termsOf xs) i noTerm
+unfolding termsOf
+room-get [] i l = absurd (not-suc-le-zero l)
+room-get (a ∷ []) i l = absurd (not-suc-le-zero l)
+room-get (a ∷ b ∷ []) i l = absurd (not-suc-le-zero l)
+room-get (a ∷ b ∷ c ∷ xs) zero l = refl
+room-get (a ∷ b ∷ c ∷ xs) (suc i) l = let e = after i in rw (e .1 .1, e .1 .0, e .0) (room-get xs i (le-of-suc-le-suc l))
+
+pub room-put : (xs : List ℕ) (i lo hi k : ℕ) → i < length (termsOf xs)
+    → termsOf (set (set (set xs (3 * i) lo) (3 * i + 1) hi) (3 * i + 2) k) ≡ set (termsOf xs) i (record { parity = hi * 2 ^ 64 + lo; turn = k })
+unfolding termsOf
+room-put [] i lo hi k l = absurd (not-suc-le-zero l)
+room-put (a ∷ []) i lo hi k l = absurd (not-suc-le-zero l)
+room-put (a ∷ b ∷ []) i lo hi k l = absurd (not-suc-le-zero l)
+room-put (a ∷ b ∷ c ∷ xs) zero lo hi k l = refl
+room-put (a ∷ b ∷ c ∷ xs) (suc i) lo hi k l =
+    let e = after i in
+    rw (e .1 .1, e .1 .0, e .0) (ap (λ (ts : List Term). record { parity = b * 2 ^ 64 + a; turn = c } ∷ ts) (room-put xs i lo hi k (le-of-suc-le-suc l)))
+
+-- ---- parts of a room that begin and end between terms
+
+pub room-take : (n : ℕ) (xs : List ℕ) → n ≤ length (termsOf xs) → termsOf (take (3 * n) xs) ≡ take n (termsOf xs)
+unfolding termsOf
+room-take zero xs l = refl
+room-take (suc n) [] l = absurd (not-suc-le-zero l)
+room-take (suc n) (a ∷ []) l = absurd (not-suc-le-zero l)
+room-take (suc n) (a ∷ b ∷ []) l = absurd (not-suc-le-zero l)
+room-take (suc n) (a ∷ b ∷ c ∷ xs) l =
+    rw (after n .0) (ap (λ (ts : List Term). record { parity = b * 2 ^ 64 + a; turn = c } ∷ ts) (room-take n xs (le-of-suc-le-suc l)))
+
+pub room-drop : (n : ℕ) (xs : List ℕ) → n ≤ length (termsOf xs) → termsOf (drop (3 * n) xs) ≡ drop n (termsOf xs)
+unfolding termsOf
+room-drop zero xs l = refl
+room-drop (suc n) [] l = absurd (not-suc-le-zero l)
+room-drop (suc n) (a ∷ []) l = absurd (not-suc-le-zero l)
+room-drop (suc n) (a ∷ b ∷ []) l = absurd (not-suc-le-zero l)
+room-drop (suc n) (a ∷ b ∷ c ∷ xs) l = rw (after n .0) (room-drop n xs (le-of-suc-le-suc l))
+
+pub room-append : (m : ℕ) (xs ys : List ℕ) → length xs ≡ 3 * m → termsOf (xs ++ ys) ≡ termsOf xs ++ termsOf ys
+unfolding termsOf
+room-append m [] ys e = refl
+room-append m (a ∷ []) ys e = absurd (omega arith)
+room-append m (a ∷ b ∷ []) ys e = absurd (omega arith)
+room-append m (a ∷ b ∷ c ∷ xs) ys e =
+    ap (λ (ts : List Term). record { parity = b * 2 ^ 64 + a; turn = c } ∷ ts) (room-append (m - 1) xs ys (omega arith))

@@ -1,0 +1,161 @@
+// The term room: terms side by side in a lent room, three numbers to a term: a parity's low word, its high word, its turn.
+use parity::Parity;
+ghost use mathlib.Core.Path.{_≡_};
+ghost use mathlib.Core.Bool.{cond};
+ghost use Prim.Native.Nat.{_<_, _≤_};
+ghost use lib.ListN.{length, take, getD, set};
+ghost use Rattle.rules.specs.Fold.{signed, addTerm};
+ghost use Rattle.rules.specs.Walk.{nonzero, crossTerms};
+ghost use Rattle.parity.specs.View.{val};
+ghost use Rattle.terms.specs.Terms.{termsOf, termOf, noTerm, exchanged, place, Begins, Sides, SplitAt};
+
+// A term as the code holds it.
+pub struct Entry {
+    pub parity: Parity,
+    pub turn: u64,
+}
+
+pub fn get(room: &[u64], i: usize) -> Entry
+    requires { ⌜ i < length (termsOf (now room)) ⌝ }
+    ensures { λ r. ⌜ termOf r ≡ getD (termsOf (now (room .entry))) i noTerm ⌝ }
+{
+    let at = 3 * i;
+    let lo = room[at];
+    let hi = room[at + 1];
+    let turn = room[at + 2];
+    Entry {
+        parity: Parity { lo, hi },
+        turn,
+    }
+}
+
+pub fn put(room: &mut [u64], i: usize, e: Entry)
+    requires { ⌜ i < length (termsOf (now room)) ⌝ }
+    ensures { λ r. ⌜ termsOf (now (room .exit)) ≡ set (termsOf (now (room .entry))) i (termOf e) ⌝ }
+{
+    let at = 3 * i;
+    room[at] = e.parity.lo;
+    room[at + 1] = e.parity.hi;
+    room[at + 2] = e.turn;
+}
+
+pub fn exchange(room: &mut [u64], i: usize, j: usize)
+    requires { ⌜ (i < length (termsOf (now room))) × (j < length (termsOf (now room))) ⌝ }
+    ensures { λ r. ⌜ termsOf (now (room .exit)) ≡ exchanged (termsOf (now (room .entry))) i j ⌝ }
+{
+    let x = get(&*room, i);
+    let y = get(&*room, j);
+    put(&mut *room, i, y);
+    put(&mut *room, j, x);
+}
+
+// The place of the first of the first `count` terms whose parity is p, or `count`.
+pub fn find(room: &[u64], count: usize, p: Parity) -> usize
+    requires { ⌜ count ≤ length (termsOf (now room)) ⌝ }
+    ensures { λ r. ⌜ r ≡ place (val p) (take count (termsOf (now (room .entry)))) ⌝ }
+{
+    let mut i = 0;
+    loop {
+        if i == count {
+            break count;
+        }
+        let e = get(room, i);
+        if e.parity.same(p) {
+            break i;
+        }
+        i += 1;
+    }
+}
+
+// Folds a turn onto the parity p, negated if the wire's constant is true; how many terms there are then. A term that becomes 0 stays.
+pub fn add_term(room: &mut [u64], count: usize, p: Parity, flips: bool, k: u8) -> usize
+    requires { ⌜ count < length (termsOf (now room)) ⌝ }
+    ensures { λ r. ⌜ Begins (addTerm (val p) (signed flips k) (take count (termsOf (now (room .entry))))) r r (termsOf (now (room .entry))) (termsOf (now (room .exit))) ⌝ }
+{
+    let added = turn::signed(flips, k);
+    let at = find(&*room, count, p);
+    if at < count {
+        let e = get(&*room, at);
+        let sum = turn::fold((e.turn % 8) as u8, added) as u64;
+        put(
+            &mut *room,
+            at,
+            Entry {
+                parity: p,
+                turn: sum,
+            },
+        );
+        count
+    } else {
+        let turn = added as u64;
+        put(&mut *room, count, Entry { parity: p, turn });
+        count + 1
+    }
+}
+
+// A test as a number: what a loop counts by, so that it has no branch on data.
+fn one(b: bool) -> usize
+    ensures { λ r. ⌜ (r ≡ cond b 1 0) × (r ≤ 1) ⌝ }
+{
+    b as usize
+}
+
+// Of the first `count` terms, those other than 0 modulo 8 come first, in order; how many they are.
+pub fn compact(room: &mut [u64], count: usize) -> usize
+    requires { ⌜ count ≤ length (termsOf (now room)) ⌝ }
+    ensures { λ r. ⌜ Begins (nonzero (take count (termsOf (now (room .entry))))) r count (termsOf (now (room .entry))) (termsOf (now (room .exit))) ⌝ }
+{
+    let mut mid = 0;
+    for k in 0..count {
+        let e = get(&*room, k);
+        exchange(&mut *room, mid, k);
+        mid += one(e.turn % 8 != 0);
+    }
+    mid
+}
+
+// Splits the terms by a column: those with it first, in order, then those without. How many have it.
+pub fn split(room: &mut [u64], column: u32) -> usize
+    requires { ⌜ column < 128 ⌝ }
+    ensures { λ r. ⌜ Sides column (termsOf (now (room .entry))) (termsOf (now (room .exit))) r ⌝ }
+{
+    let count = room.len() / 3;
+    let mut mid = 0;
+    for k in 0..count {
+        let e = get(&*room, k);
+        exchange(&mut *room, mid, k);
+        mid += one(e.parity.has(column));
+    }
+    mid
+}
+
+// The same of the terms from `from` up to `to`, with the rest of the room as it was.
+pub fn split_at(room: &mut [u64], from: usize, to: usize, column: u32) -> usize
+    requires { ⌜ (column < 128) × ((from ≤ to) × (to ≤ length (termsOf (now room)))) ⌝ }
+    ensures { λ r. ⌜ SplitAt column from to (termsOf (now (room .entry))) (termsOf (now (room .exit))) r ⌝ }
+{
+    let a = 3 * from;
+    let e = 3 * to;
+    split(&mut room[a..e], column)
+}
+
+// A CNOT from p to t passes the first `count` terms: a parity with bit t has bit p flipped.
+pub fn flip(room: &mut [u64], count: usize, p: u32, t: u32)
+    requires { ⌜ (p < 128) × ((t < 128) × (count ≤ length (termsOf (now room)))) ⌝ }
+    ensures { λ r. ⌜ Begins (crossTerms p t (take count (termsOf (now (room .entry))))) count count (termsOf (now (room .entry))) (termsOf (now (room .exit))) ⌝ }
+{
+    let mask = Parity::single(p);
+    for k in 0..count {
+        let e = get(&*room, k);
+        let hit = e.parity.has(t);
+        let parity = e.parity.xor(mask.kept(hit));
+        put(
+            &mut *room,
+            k,
+            Entry {
+                parity,
+                turn: e.turn,
+            },
+        );
+    }
+}
