@@ -2,7 +2,7 @@
 use mathlib.Core.Path.{_≡_, refl, sym, ap, ap₂, _∙_}
 use mathlib.Core.Bool.{Bool, true, false, cond}
 use mathlib.Core.List.{List, [], _∷_, _++_}
-use mathlib.Core.Option.{none, some}
+use mathlib.Core.Option.{Option, none, some}
 use Prim.Native.Nat.{ℕ, suc, _+_, _-_, _≤_, _<_}
 use native.Mathlib.Numerals.{add-one}
 use native.Mathlib.Omega.{arith}
@@ -13,7 +13,7 @@ use Rattle.rules.specs.Bit.{xor}
 use Rattle.rules.specs.Close.{addTo, swap, firstWith, units, Pairs, clearBoth, invertFrom, inverse, eqRows}
 use Rattle.rules.proofs.Bits.{same}
 use Rattle.parity.proofs.Laws.{xor-zero-r}
-use Rattle.rows.specs.Rows.{otherHas, pair}
+use Rattle.rows.specs.Rows.{otherHas, pair, given}
 
 -- ---- a list filled from the front is the first r elements of the list wanted
 
@@ -93,6 +93,16 @@ unfolding inverse
 invert-start a b e =
     let s : length a - 0 ≡ length a = omega arith in
     rw (s, e)
+
+-- the answer, taken apart
+module _ (b : Bool) (rows : List ℕ) (o : Option (List ℕ)) (e : given b rows ≡ o) where
+  pub given-some : b ≡ true → o ≡ some rows
+  unfolding given
+  given-some t = sym e ∙ rw t
+
+  pub given-none : b ≡ false → o ≡ none
+  unfolding given
+  given-none t = sym e ∙ rw t
 
 -- ---- rows compared from the front
 

@@ -1,0 +1,72 @@
+// The closing map: rows taken to the identity by additions, which are written into a lent room.
+use rows::Found;
+ghost use Prim.Native.Nat.{_+_, _*_, _≤_, _<_};
+ghost use lib.ListN.{length};
+ghost use Rattle.rows.specs.Rows.{rowsOf};
+ghost use Rattle.closing.specs.Additions.{Noted, Given, Reduced};
+
+// How many additions were written; lost where there is no end, or they would pass the limit.
+pub enum Closed {
+    Steps(usize),
+    Lost,
+}
+
+// Writes as entry k that row `from` was added to row `to`.
+fn note(steps: &mut [u32], k: usize, from: usize, to: usize)
+    requires { ⌜ (2 * k + 1 < length (now steps)) × ((from < 128) × (to < 128)) ⌝ }
+    ensures { λ r. ⌜ Noted k from to (now (steps .entry)) (now (steps .exit)) ⌝ }
+{
+    let at = 2 * k;
+    steps[at] = from as u32;
+    steps[at + 1] = to as u32;
+}
+
+// Where the diagonal bit of a column is 0, the first lower row that has it is added.
+fn diagonal(m: &mut [u64], steps: &mut [u32], k: usize, limit: usize, column: usize) -> Closed
+    requires { ⌜ (column < length (rowsOf (now m))) × ((length (rowsOf (now m)) ≤ 128) × ((k ≤ limit) × (2 * (limit + 1) ≤ length (now steps)))) ⌝ }
+    ensures { λ r. ⌜ Given limit k column r (now (m .entry)) (now (m .exit)) (now (steps .entry)) (now (steps .exit)) ⌝ }
+{
+    if rows::get(&*m, column).has(column as u32) {
+        return Closed::Steps(k);
+    }
+    let Found::At(donor) = rows::find(&*m, column as u32, column + 1) else {
+        return Closed::Lost;
+    };
+    if k >= limit {
+        return Closed::Lost;
+    }
+    rows::add(&mut *m, donor, column);
+    note(&mut *steps, k, donor, column);
+    Closed::Steps(k + 1)
+}
+
+// Takes the rows of `m` to the identity, column by column, and writes the additions. It stops where they pass the limit.
+pub fn reduce(m: &mut [u64], steps: &mut [u32], limit: usize) -> Closed
+    requires { ⌜ (length (rowsOf (now m)) ≤ 128) × (2 * (limit + 1) ≤ length (now steps)) ⌝ }
+    ensures { λ r. ⌜ Reduced limit r (rowsOf (now (m .entry))) (now (steps .entry)) (now (steps .exit)) ⌝ }
+{
+    let n = m.len() / 2;
+    let mut k = 0;
+    let mut column = 0;
+    'columns: loop {
+        if column >= n {
+            break 'columns Closed::Steps(k);
+        }
+        let Closed::Steps(filled) = diagonal(&mut *m, &mut *steps, k, limit, column) else {
+            break 'columns Closed::Lost;
+        };
+        k = filled;
+        // no branch on the bit: every turn stores, and only the count moves by it
+        let pivot = rows::get(&*m, column);
+        for r in 0..n {
+            let bit = rows::other(rows::get(&*m, r), column as u32, r);
+            rows::add_kept(&mut *m, r, pivot, bit);
+            note(&mut *steps, k, column, r);
+            k += bit as usize;
+            if k > limit {
+                break 'columns Closed::Lost;
+            }
+        }
+        column += 1;
+    }
+}
