@@ -1,17 +1,19 @@
 -- One turn of each loop, over plain lists.
 use mathlib.Core.Path.{_≡_, refl, sym, ap, ap₂, _∙_}
+use mathlib.Core.Logic.{_⊎_, inl, inr}
 use mathlib.Core.Bool.{Bool, true, false, cond}
 use mathlib.Core.List.{List, [], _∷_, _++_}
 use mathlib.Core.Option.{Option, none, some}
-use Prim.Native.Nat.{ℕ, suc, _+_, _-_, _≤_, _<_}
+use Prim.Native.Nat.{ℕ, zero, suc, _+_, _-_, _≤_, _<_}
 use native.Mathlib.Numerals.{add-one}
 use native.Mathlib.Omega.{arith}
 use lib.Dec.{eqb}
 use lib.ListN.{length, getD, set, take, drop, drop-of-length-le}
 use lib.Seq.{set-getD, getD-set-other, take-suc, take-suc-set, take-all, drop-cons}
-use Rattle.rules.specs.Bit.{xor}
+use Rattle.rules.specs.Bit.{bit, xor}
 use Rattle.rules.specs.Close.{addTo, swap, firstWith, units, Pairs, clearBoth, invertFrom, inverse, eqRows}
-use Rattle.rules.proofs.Bits.{same}
+use borrow.Author.Tests.{ne-eqb}
+use Rattle.rules.proofs.Bits.{same, eqb-self}
 use Rattle.parity.proofs.Laws.{xor-zero-r}
 use Rattle.rows.specs.Rows.{otherHas, pair, given}
 
@@ -65,6 +67,38 @@ module _ (n c r : ℕ) (a b : List ℕ) where
   pub clear-end : n ≤ r → clearBoth c (n - r) r (pair a b) ≡ pair a b
   unfolding clearBoth
   clear-end l = let e : n - r ≡ 0 = omega arith in rw e
+
+-- a row of a part that column c is none of: its bit alone decides
+pub another : (c r x from to : ℕ) → from ≤ r → r < to → (c < from) ⊎ (to ≤ c) → bit x c ≡ otherHas c r x
+another c r x from to l h (inl k) = rw (ne-eqb r c (λ e. omega arith))
+another c r x from to l h (inr k) = rw (ne-eqb r c (λ e. omega arith))
+
+clear-parts : (c j k r : ℕ) (m : Pairs) → clearBoth c (j + k) r m ≡ clearBoth c k (r + j) (clearBoth c j r m)
+unfolding clearBoth
+clear-parts c zero k r m =
+    let e : zero + k ≡ k = omega arith in
+    let f : r + zero ≡ r = omega arith in
+    rw (e, f)
+clear-parts c (suc j) k r m =
+    let e : suc j + k ≡ suc (j + k) = omega arith in
+    let f : r + suc j ≡ suc r + j = omega arith in
+    rw (e, f) (clear-parts c j k (suc r) _)
+
+clear-self : (c k : ℕ) (m : Pairs) → clearBoth c (suc k) c m ≡ clearBoth c k (c + 1) m
+unfolding clearBoth
+clear-self c k m = rw (add-one c, eqb-self c)
+
+-- the rows above row c, then those below it
+pub clear-around : (n c : ℕ) (m : Pairs) → c < n → clearBoth c n 0 m ≡ clearBoth c (n - (c + 1)) (c + 1) (clearBoth c (c - 0) 0 m)
+clear-around n c m h =
+    let e : n ≡ c + suc (n - (c + 1)) = omega arith in
+    let f : 0 + c ≡ c = omega arith in
+    let g : c ≡ c - 0 = omega arith in
+    ap (λ (k : ℕ). clearBoth c k 0 m) e
+    ∙ clear-parts c c (suc (n - (c + 1))) 0 m
+    ∙ ap (λ (r : ℕ). clearBoth c (suc (n - (c + 1))) r (clearBoth c c 0 m)) f
+    ∙ clear-self c (n - (c + 1)) (clearBoth c c 0 m)
+    ∙ ap (λ (k : ℕ). clearBoth c (n - (c + 1)) (c + 1) (clearBoth c k 0 m)) g
 
 -- ---- a column of the inverse
 

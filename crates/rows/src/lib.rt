@@ -1,6 +1,7 @@
 // Bit matrices over lent rooms, two words to a row: the low word, then the high one.
 use parity::Parity;
 ghost use mathlib.Core.Path.{_≡_};
+ghost use mathlib.Core.Logic.{_⊎_};
 ghost use mathlib.Core.Bool.{cond};
 ghost use mathlib.Core.List.{map};
 ghost use Prim.Native.Nat.{ℕ, _-_, _^_, _≤_, _<_};
@@ -107,19 +108,31 @@ pub fn other(x: Parity, column: u32, r: usize) -> bool
     (r != column as usize) & x.has(column)
 }
 
-// Row `column` is added to every other row that has the column, and `inv` follows. The two pivot rows stay as they are, so they are read once.
+// Row `column` is added to those of the rows from `from` up to `to` that have the column, and `inv` follows. The row itself is none of
+// them: a test for it inside the loop would be one on data too. The two pivot rows stay as they are, so they are read once.
+fn clear_rows(a: &mut [u64], inv: &mut [u64], column: u32, from: usize, to: usize)
+    requires { ⌜ (column < 128) × ((column < length (rowsOf (now a))) × (length (now inv) ≡ length (now a))) ⌝ }
+    requires { ⌜ (from ≤ to) × ((to ≤ length (rowsOf (now a))) × ((column < from) ⊎ (to ≤ column))) ⌝ }
+    ensures { λ r. ⌜ pair (rowsOf (now (a .exit))) (rowsOf (now (inv .exit))) ≡ clearBoth column (to - from) from (pair (rowsOf (now (a .entry))) (rowsOf (now (inv .entry)))) ⌝ }
+{
+    let pivot = get(&*a, column as usize);
+    let follow = get(&*inv, column as usize);
+    for r in from..to {
+        let bit = get(&*a, r).has(column);
+        add_kept(&mut *a, r, pivot, bit);
+        add_kept(&mut *inv, r, follow, bit);
+    }
+}
+
+// Row `column` is added to every other row that has the column, and `inv` follows.
 pub fn clear_column(a: &mut [u64], inv: &mut [u64], column: u32)
     requires { ⌜ (column < 128) × ((column < length (rowsOf (now a))) × (length (now inv) ≡ length (now a))) ⌝ }
     ensures { λ r. ⌜ pair (rowsOf (now (a .exit))) (rowsOf (now (inv .exit))) ≡ clearBoth column (length (rowsOf (now (a .entry)))) 0 (pair (rowsOf (now (a .entry))) (rowsOf (now (inv .entry)))) ⌝ }
 {
     let n = a.len() / 2;
-    let pivot = get(&*a, column as usize);
-    let follow = get(&*inv, column as usize);
-    for r in 0..n {
-        let bit = other(get(&*a, r), column, r);
-        add_kept(&mut *a, r, pivot, bit);
-        add_kept(&mut *inv, r, follow, bit);
-    }
+    let row = column as usize;
+    clear_rows(&mut *a, &mut *inv, column, 0, row);
+    clear_rows(&mut *a, &mut *inv, column, row + 1, n);
 }
 
 // The identity.

@@ -22,3 +22,4 @@ pub mod Output
 pub mod Turning
 pub mod Choosing
 pub mod Cases
+pub mod Scanning

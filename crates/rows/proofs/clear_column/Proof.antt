@@ -1,106 +1,55 @@
--- `rows::clear_column` meets its contract. The loop's invariant: what is left to clear gives what the whole does, and the pivot rows are as they were.
--- The measure is the rows left.
-use mathlib.Core.Path.{_≡_, refl, sym, ap, _∙_}
-use Prim.Native.Nat.{ℕ, _≤_, _<_, _-_}
+-- `rows::clear_column` meets its contract: the rows above the column's own, then those below it.
+use mathlib.Core.Path.{_≡_, sym, ap, _∙_}
+use mathlib.Core.Logic.{inl, inr}
+use Prim.Native.Nat.{ℕ, _+_, _-_, _/_}
 use native.Mathlib.Omega.{arith}
 use borrow.Author.Needs.{needs}
-use lib.ListN.{length, getD}
-use Rattle.rules.specs.Close.{clearBoth}
-use Rattle.parity.specs.View.{val}
-use Rattle.rows.specs.Rows.{rowsOf, pair, otherHas}
+use lib.ListN.{length}
+use Rattle.rules.specs.Close.{Pairs, clearBoth}
+use Rattle.rows.specs.Rows.{rowsOf, pair}
 use Rattle.rows.proofs.Room.{row-count}
-use Rattle.rows.proofs.Turns.{pivot-stays, clear-next, clear-end}
+use Rattle.rows.proofs.Turns.{clear-around}
 use Rattle.rows.proofs.clear_column.Statement.{statement}
 use Rattle.rows.proofs.clear_column.Tie as tie
 
-abbrev Inv-loop : tie.InvT-loop
-Inv-loop a₀ inv₀ column n pivot follow r₀ a inv r =
-    (length a ≡ length a₀) × (length inv ≡ length inv₀) × (r ≤ length (rowsOf a₀))
-    × (getD (rowsOf a) column 0 ≡ val pivot) × (getD (rowsOf inv) column 0 ≡ val follow)
-    × (clearBoth column (length (rowsOf a₀)) 0 (pair (rowsOf a₀) (rowsOf inv₀)) ≡ clearBoth column (length (rowsOf a₀) - r) r (pair (rowsOf a) (rowsOf inv)))
+clear-rows-requires : tie.Need-clear-rows-requires
+clear-rows-requires c κs = ((c .before .before .before .before) .pre, (omega arith, (omega arith, inr (omega arith))))
 
-abbrev μ-loop : tie.MeasureT-loop
-μ-loop a₀ inv₀ column n pivot follow r₀ a inv r = length (rowsOf a₀) - r
+add-clear-rows : tie.Need-add-clear-rows
+add-clear-rows c = search needs
 
--- a row is left, and both rooms have it
-more : (c : tie.In-loop Inv-loop μ-loop)
-    → let l = (c .before) .loop in let n = length (rowsOf ((c .before .before .before .before .before .before .before .before) .args .a .now)) in
-    (l .r < n) × (length (rowsOf (l .a)) ≡ n) × (length (rowsOf (l .inv′)) ≡ n)
-more c =
-    let e = row-count ((c .before .before .before .before .before .before .before .before) .args .a .now) in
-    let f = row-count ((c .before) .loop .a) in
-    let g = row-count ((c .before) .loop .inv′) in
-    (omega arith, omega arith, omega arith)
+clear-rows-requires-2 : tie.Need-clear-rows-requires-2
+clear-rows-requires-2 c κs =
+    let e = row-count ((c .before .before .before .before .before .before .before .before .before .before .before) .args .a .now) in
+    let f = row-count ((c .before .before .before .before .before .before) .clear-rows .last .0) in
+    let g : length ((c .before .before .before .before .before .before) .clear-rows .last .0) ≡ length ((c .before .before .before .before .before .before .before .before .before .before .before) .args .a .now) = (c .before .before .before .before .before .before) .clear-rows .kept .0 in
+    let h : length ((c .before .before .before .before .before .before) .clear-rows .last .1 .0) ≡ length ((c .before .before .before .before .before .before .before .before .before .before .before) .args .inv .now) = (c .before .before .before .before .before .before) .clear-rows .kept .1 .0 in
+    ((omega arith, (omega arith, omega arith)), (omega arith, (omega arith, inl (omega arith))))
 
-get-requires : tie.Need-get-requires Inv-loop μ-loop
-get-requires c κs = search needs
-
-get-requires-2 : tie.Need-get-requires-2 Inv-loop μ-loop
-get-requires-2 c κs = omega (arith, row-count ((c .before .before .before .before .before) .args .a .now), row-count ((c .before .before .before .before .before) .args .inv .now))
-
-loop-holds : tie.Need-loop-holds Inv-loop μ-loop
-loop-holds c =
-    let s = (c .before .before .before .before .before .before) .args in
-    let e : length (rowsOf (s .a .now)) ≡ length (rowsOf (s .a .now)) - 0 = omega arith in
-    (refl, refl, omega arith, sym ((c .before .before) .get .ensures), sym (c .get2 .ensures), ap (λ (k : ℕ). clearBoth (s .column) k 0 (pair (rowsOf (s .a .now)) (rowsOf (s .inv .now)))) e)
-
-get-requires-3 : tie.Need-get-requires-3 Inv-loop μ-loop
-get-requires-3 c κs = omega (arith, more (c .before) .0, more (c .before) .1)
-
-other-requires : tie.Need-other-requires Inv-loop μ-loop
-other-requires c κs = search needs
-
-add-kept-requires : tie.Need-add-kept-requires Inv-loop μ-loop
-add-kept-requires c κs = omega (arith, more (c .before .before .before .before) .0, more (c .before .before .before .before) .1)
-
-add-kept-requires-2 : tie.Need-add-kept-requires-2 Inv-loop μ-loop
-add-kept-requires-2 c κs = omega (arith, more (c .before .before .before .before .before .before .before .before) .0, more (c .before .before .before .before .before .before .before .before) .2)
-
-add-r : tie.Need-add-r Inv-loop μ-loop
-add-r c = omega (arith, more (c .before .before .before .before .before .before .before .before .before .before .before) .0)
-
-loop-less : tie.Need-loop-less Inv-loop μ-loop
-loop-less c = omega (arith, more (c .before .before .before .before .before .before .before .before .before .before .before) .0)
-
-loop-again : tie.Need-loop-again Inv-loop μ-loop
-loop-again c =
-    let l = (c .before .before .before .before .before .before .before .before .before .before .before .before) .loop in
-    let s = (c .before .before .before .before .before .before .before .before .before .before .before .before .before .before .before .before .before .before .before) .args in
-    let h = more (c .before .before .before .before .before .before .before .before .before .before .before) in
-    let keep : (c .before .before .before .before .before .before .before .before) .other .result ≡ otherHas (s .column) (l .r) (getD (rowsOf (l .a)) (l .r) 0) = (c .before .before .before .before .before .before .before .before) .other .ensures ∙ rw ((c .before .before .before .before .before .before .before .before .before) .get3 .ensures) in (
-      (c .before .before .before .before .before .before) .add-kept .kept .0 ∙ l .inv .0,
-      (c .before .before) .add-kept2 .kept .0 ∙ l .inv .1,
-      omega arith,
-      rw ((c .before .before .before .before .before .before) .add-kept .ensures) (pivot-stays _ (s .column) (l .r) _ _ (rowsOf (l .a)) keep ∙ l .inv .3),
-      rw ((c .before .before) .add-kept2 .ensures) (pivot-stays _ (s .column) (l .r) _ _ (rowsOf (l .inv′)) keep ∙ l .inv .4),
-      rw ((c .before .before .before .before .before .before) .add-kept .ensures, (c .before .before) .add-kept2 .ensures) (l .inv .5 ∙ clear-next _ _ _ _ _ _ _ _ (h .0) (l .inv .3) (l .inv .4) keep),
-    )
-
-same-length : tie.Need-same-length Inv-loop μ-loop
+same-length : tie.Need-same-length
 same-length c = search needs
 
-same-length-2 : tie.Need-same-length-2 Inv-loop μ-loop
+same-length-2 : tie.Need-same-length-2
 same-length-2 c = search needs
 
-returns : tie.Need-returns Inv-loop μ-loop
-returns c = sym ((c .before) .loop .inv .5 ∙ clear-end _ _ _ _ _ (omega (arith, row-count ((c .before .before .before .before .before .before .before .before) .args .a .now))))
+returns : tie.Need-returns
+returns c =
+    let s = (c .before .before .before .before .before .before .before .before .before .before .before .before .before .before .before .before) .args in
+    let column : ℕ = s .column in
+    let n : ℕ = length (rowsOf (s .a .now)) in
+    let e : length (s .a .now) / 2 ≡ n = sym (row-count (s .a .now)) in
+    (c .before .before .before .before) .clear-rows2 .ensures
+    ∙ ap (λ (m : Pairs). clearBoth column (length (s .a .now) / 2 - (column + 1)) (column + 1) m) ((c .before .before .before .before .before .before .before .before .before .before .before) .clear-rows .ensures)
+    ∙ ap (λ (k : ℕ). clearBoth column (k - (column + 1)) (column + 1) (clearBoth column (column - 0) 0 (pair (rowsOf (s .a .now)) (rowsOf (s .inv .now))))) e
+    ∙ sym (clear-around n column (pair (rowsOf (s .a .now)) (rowsOf (s .inv .now))) ((c .before .before .before .before .before .before .before .before .before .before .before .before .before .before .before .before) .pre .1 .0))
 
 pub clear-column-spec : {M : Type 1} → statement M
 clear-column-spec =
     tie.close
     (tie.spec
-    Inv-loop
-    μ-loop
-    get-requires
-    get-requires-2
-    loop-holds
-    get-requires-3
-    other-requires
-    add-kept-requires
-    add-kept-requires-2
-    add-r
-    loop-less
-    loop-again
+    clear-rows-requires
+    add-clear-rows
+    clear-rows-requires-2
     same-length
     same-length-2
     returns)
