@@ -1,5 +1,6 @@
 -- Two words as one number, over any width k of the low word and j of the high one.
 use mathlib.Core.Path.{_≡_, refl, sym, ap, ap₂, _∙_}
+use mathlib.Core.Logic.{_≢_}
 use mathlib.Core.Bool.{Bool, true, false, _&&_, cond}
 use Prim.Native.Nat.{ℕ, zero, suc, _+_, _-_, _*_, _/_, _%_, _^_, _≤_, _<_}
 use native.Mathlib.Nat.{le-of-suc-le-suc, add-suc, add-zero, mul-one, suc-add, zero-add, not-suc-le-zero, one-mul, zero-mul, mul-zero, mod-eq-of-lt, mul-le-mul-right, pow-suc}
@@ -121,3 +122,13 @@ kept-le w false = omega arith
 pub words-kept : (k hi lo : ℕ) (keep : Bool) → hi * boolByte keep * 2 ^ k + lo * boolByte keep ≡ cond keep (hi * 2 ^ k + lo) 0
 words-kept k hi lo true = rw (mul-one hi, mul-one lo)
 words-kept k hi lo false = rw (mul-zero hi, mul-zero lo, zero-mul (2 ^ k))
+
+-- the digit as a number
+pub digit-cond : (n i : ℕ) → n / 2 ^ i % 2 ≡ cond (bit n i) 1 0
+digit-cond n i =
+    split (bit n i)
+    (λ e. rw e (eqb-true (n / 2 ^ i % 2) 1 (digit-bit n i ∙ e)))
+    (λ e. rw e (low (eqb-false (n / 2 ^ i % 2) 1 (digit-bit n i ∙ e))))
+  where
+    low : (n / 2 ^ i % 2 ≢ 1) → n / 2 ^ i % 2 ≡ 0
+    low h = omega arith

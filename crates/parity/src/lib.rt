@@ -1,11 +1,12 @@
 // A parity: a set of columns 0 to 127, in two words. Methods take it by value and hand a new one back.
 ghost use mathlib.Core.Path.{_≡_};
 ghost use mathlib.Core.Bool.{_&&_, _||_, cond};
+ghost use mathlib.Core.List.{[], _∷_};
 ghost use Prim.Native.Nat.{ℕ, _-_, _≤_, _<_, _^_};
 ghost use lib.Dec.{eqb};
 ghost use Rattle.rules.specs.Bit.{bit, xor};
 ghost use Rattle.parity.specs.Columns.{clearLowest, LowestIs, HighestIs};
-ghost use Rattle.parity.specs.View.{val};
+ghost use Rattle.parity.specs.View.{val, picked};
 
 pub struct Parity {
     pub lo: u64,
@@ -98,6 +99,26 @@ impl Parity {
         }
     }
 
+    // None and the parity, side by side, for `pick`.
+    pub fn table(self) -> [u64; 4]
+        ensures { λ r. ⌜ r ≡ 0 ∷ 0 ∷ self .lo ∷ self .hi ∷ [] ⌝ }
+    {
+        [0, 0, self.lo, self.hi]
+    }
+
+    // The parity of a table where the digit is 1, none of its columns where it is 0: taken by its place. A compiler makes a branch of a
+    // product or a mask in a loop, and never of a load.
+    pub fn pick(t: &[u64; 4], digit: u64) -> Parity
+        requires { ⌜ digit ≤ 1 ⌝ }
+        ensures { λ r. ⌜ val r ≡ picked (now (t .entry)) digit ⌝ }
+    {
+        let at = 2 * (digit as usize);
+        Parity {
+            lo: t[at],
+            hi: t[at + 1],
+        }
+    }
+
     pub fn same(self, other: Parity) -> bool
         ensures { λ r. ⌜ r ≡ eqb (val self) (val other) ⌝ }
     {
@@ -119,6 +140,18 @@ impl Parity {
             (self.lo >> column) % 2 == 1
         } else {
             (self.hi >> (column - 64)) % 2 == 1
+        }
+    }
+
+    // The same as a number, for a loop that counts or picks by it.
+    pub fn digit(self, column: u32) -> u64
+        requires { ⌜ column < 128 ⌝ }
+        ensures { λ r. ⌜ (r ≡ cond (bit (val self) column) 1 0) × (r ≤ 1) ⌝ }
+    {
+        if column < 64 {
+            (self.lo >> column) % 2
+        } else {
+            (self.hi >> (column - 64)) % 2
         }
     }
 

@@ -15,6 +15,8 @@ use Rattle.rules.specs.Close.{addTo, swap, firstWith, units, Pairs, clearBoth, 
 use borrow.Author.Tests.{ne-eqb}
 use Rattle.rules.proofs.Bits.{same, eqb-self}
 use Rattle.parity.proofs.Laws.{xor-zero-r}
+use Rattle.parity.specs.View.{val, picked}
+use Rattle.parity.specs.declared.Parity.{Parity}
 use Rattle.rows.specs.Rows.{otherHas, pair, given}
 
 -- ---- a list filled from the front is the first r elements of the list wanted
@@ -37,6 +39,18 @@ pub kept-add : (keep : Bool) (c r : ℕ) (m : List ℕ) → set m r (xor (getD m
 unfolding addTo
 kept-add true c r m = refl
 kept-add false c r m = still r m
+
+-- the table of a row: none, and the row
+pub record Pivot (p : ℕ) (t : List ℕ) : Type 0 where
+  pub none : picked t 0 ≡ 0
+  pub row : picked t 1 ≡ p
+
+pub pivot-made : {p : ℕ} {t : List ℕ} (q : Parity) → p ≡ val q → t ≡ 0 ∷ 0 ∷ q .lo ∷ q .hi ∷ [] → Pivot p t
+pivot-made q e f = rw (e, f) (record { none = refl; row = refl })
+
+pub pivot-picks : {p : ℕ} {t : List ℕ} (keep : Bool) (digit : ℕ) → digit ≡ cond keep 1 0 → Pivot p t → picked t digit ≡ cond keep p 0
+pivot-picks true digit e h = rw e (h .row)
+pivot-picks false digit e h = rw e (h .none)
 
 -- row c itself is never added to
 pub pivot-stays : (keep : Bool) (c r x p : ℕ) (m : List ℕ) → keep ≡ otherHas c r x → getD (set m r (xor (getD m r 0) (cond keep p 0))) c 0 ≡ getD m c 0

@@ -6,7 +6,7 @@ ghost use mathlib.Core.Bool.{cond};
 ghost use mathlib.Core.List.{map};
 ghost use Prim.Native.Nat.{ℕ, _-_, _^_, _≤_, _<_};
 ghost use lib.ListN.{length, getD, set};
-ghost use Rattle.parity.specs.View.{val};
+ghost use Rattle.parity.specs.View.{val, picked};
 ghost use Rattle.rules.specs.Bit.{xor};
 ghost use Rattle.rules.specs.Close.{addTo, swap, firstWith, units, times, clearBoth, inverse, eqRows};
 ghost use Rattle.rows.specs.Rows.{rowsOf, told, otherHas, pair, given};
@@ -82,7 +82,7 @@ pub fn swap(m: &mut [u64], i: usize, j: usize)
     put(&mut *m, j, x);
 }
 
-// A parity is added to row r, or nothing is: every call stores, so that a loop has no branch on data.
+// A parity is added to row r, or nothing is.
 pub fn add_kept(m: &mut [u64], r: usize, p: Parity, keep: bool)
     requires { ⌜ r < length (rowsOf (now m)) ⌝ }
     ensures { λ u. ⌜ rowsOf (now (m .exit)) ≡ set (rowsOf (now (m .entry))) r (xor (getD (rowsOf (now (m .entry))) r 0) (cond keep (val p) 0)) ⌝ }
@@ -91,13 +91,23 @@ pub fn add_kept(m: &mut [u64], r: usize, p: Parity, keep: bool)
     put(&mut *m, r, x.xor(p.kept(keep)));
 }
 
+// The parity of a table is added to row r where the digit is 1, nothing where it is 0: every call stores, so that a loop has no branch on data.
+pub fn add_picked(m: &mut [u64], r: usize, t: &[u64; 4], digit: u64)
+    requires { ⌜ (r < length (rowsOf (now m))) × (digit ≤ 1) ⌝ }
+    ensures { λ u. ⌜ rowsOf (now (m .exit)) ≡ set (rowsOf (now (m .entry))) r (xor (getD (rowsOf (now (m .entry))) r 0) (picked (now (t .entry)) digit)) ⌝ }
+{
+    let x = get(&*m, r);
+    put(&mut *m, r, x.xor(Parity::pick(t, digit)));
+}
+
 // Row a is added to row b.
 pub fn add(m: &mut [u64], a: usize, b: usize)
     requires { ⌜ (a < length (rowsOf (now m))) × (b < length (rowsOf (now m))) ⌝ }
     ensures { λ r. ⌜ rowsOf (now (m .exit)) ≡ addTo a b (rowsOf (now (m .entry))) ⌝ }
 {
     let p = get(&*m, a);
-    add_kept(&mut *m, b, p, true);
+    let x = get(&*m, b);
+    put(&mut *m, b, x.xor(p));
 }
 
 // Whether row r, which is x, is another than row `column` and has that column.
@@ -115,12 +125,12 @@ fn clear_rows(a: &mut [u64], inv: &mut [u64], column: u32, from: usize, to: usiz
     requires { ⌜ (from ≤ to) × ((to ≤ length (rowsOf (now a))) × ((column < from) ⊎ (to ≤ column))) ⌝ }
     ensures { λ r. ⌜ pair (rowsOf (now (a .exit))) (rowsOf (now (inv .exit))) ≡ clearBoth column (to - from) from (pair (rowsOf (now (a .entry))) (rowsOf (now (inv .entry)))) ⌝ }
 {
-    let pivot = get(&*a, column as usize);
-    let follow = get(&*inv, column as usize);
+    let pivot = get(&*a, column as usize).table();
+    let follow = get(&*inv, column as usize).table();
     for r in from..to {
-        let bit = get(&*a, r).has(column);
-        add_kept(&mut *a, r, pivot, bit);
-        add_kept(&mut *inv, r, follow, bit);
+        let digit = get(&*a, r).digit(column);
+        add_picked(&mut *a, r, &pivot, digit);
+        add_picked(&mut *inv, r, &follow, digit);
     }
 }
 
