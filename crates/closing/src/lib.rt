@@ -1,9 +1,17 @@
-// The closing map: rows taken to the identity by additions, which are written into a lent room.
+// The closing map: rows taken to the identity by additions, which are written into a lent room, and emitted in reverse as CNOTs.
+use budget::Budget;
+use budget::Pushed;
+use join::Local;
 use rows::Found;
+ghost use mathlib.Core.Path.{_≡_};
 ghost use Prim.Native.Nat.{_+_, _*_, _≤_, _<_};
 ghost use lib.ListN.{length};
+ghost use Rattle.rules.specs.Synth as Synth;
+ghost use Rattle.budget.specs.View.{view};
+ghost use Rattle.emit.specs.Emitted.{Ready, Emits};
 ghost use Rattle.rows.specs.Rows.{rowsOf};
 ghost use Rattle.closing.specs.Additions.{Noted, Given, Reduced};
+ghost use Rattle.closing.specs.Emission.{leftOf, Sent, backwards, Rooms, Closes};
 
 // How many additions were written; lost where there is no end, or they would pass the limit.
 pub enum Closed {
@@ -69,4 +77,75 @@ pub fn reduce(m: &mut [u64], steps: &mut [u32], limit: usize) -> Closed
         }
         column += 1;
     }
+}
+
+// How many gates the budget has left.
+fn left_of(b: Budget) -> usize
+    requires { ⌜ (b .two ≤ b .maxtwo) × (b .all ≤ b .maxall) ⌝ }
+    ensures { λ r. ⌜ r ≡ leftOf (view b) ⌝ }
+{
+    let two = b.maxtwo - b.two;
+    let all = b.maxall - b.all;
+    if two < all { two } else { all }
+}
+
+// The first k additions of the room as CNOTs, from the added row to the changed one, the last addition first.
+fn emit_steps(names: &[u32], steps: &[u32], k: usize, out: &mut [i32], b: Budget) -> Pushed
+    requires { ⌜ Ready (now out) (view b) ⌝ }
+    requires { ⌜ Sent (now names) (now steps) k ⌝ }
+    ensures { λ r. ⌜ Emits (Synth.emit (now (names .entry)) (backwards (now (steps .entry)) k)) (now (out .entry)) (view b) (now (out .exit)) (view (r .budget)) (r .within) ⌝ }
+{
+    let mut spent = b;
+    let mut i = k;
+    while i > 0 {
+        let at = 2 * (i - 1);
+        let control = join::wire_of(names, Local(steps[at]));
+        let target = join::wire_of(names, Local(steps[at + 1]));
+        let p = emit::emit_cnot(&mut *out, spent, control, target);
+        spent = p.budget;
+        let within = p.within;
+        if !within {
+            return p;
+        }
+        i -= 1;
+    }
+    Pushed {
+        budget: spent,
+        within: true,
+    }
+}
+
+// Emits the CNOTs that take the rows `held` to the rows `wanted`. Once inverted, `held` is spent, so the map still needed goes there.
+pub fn linear_synth(
+    held: &mut [u64],
+    wanted: &[u64],
+    right: &mut [u64],
+    names: &[u32],
+    steps: &mut [u32],
+    out: &mut [i32],
+    b: Budget,
+) -> Pushed
+    requires { ⌜ Ready (now out) (view b) ⌝ }
+    requires { ⌜ Rooms (now held) (now wanted) (now right) (now names) (now steps) (b .maxall) ⌝ }
+    ensures { λ r. ⌜ Closes (rowsOf (now (held .entry))) (rowsOf (now (wanted .entry))) (now (names .entry)) (now (out .entry)) (view b) (now (out .exit)) (view (r .budget)) (r .within) ⌝ }
+{
+    let idle = Pushed {
+        budget: b,
+        within: true,
+    };
+    let lost = Pushed {
+        budget: b,
+        within: false,
+    };
+    if rows::equal(&*held, wanted) {
+        return idle;
+    }
+    if !rows::invert_into(&mut *held, &mut *right) {
+        return lost;
+    }
+    rows::products(wanted, &*right, &mut *held);
+    let Closed::Steps(k) = reduce(&mut *held, &mut *steps, left_of(b)) else {
+        return lost;
+    };
+    emit_steps(names, &*steps, k, out, b)
 }

@@ -23,3 +23,4 @@ pub mod Turning
 pub mod Choosing
 pub mod Cases
 pub mod Scanning
+pub mod Steps

@@ -1,0 +1,33 @@
+-- `block::absorb_x` meets its contract.
+use mathlib.Core.Path.{_∙_}
+use Rattle.rules.specs.Fold.{entered}
+use Rattle.block.proofs.Folding.{flip-joined}
+use borrow.Author.Needs.{needs}
+use Rattle.block.proofs.absorb_x.Statement.{statement}
+use Rattle.block.proofs.absorb_x.Tie as tie
+
+enter-requires : tie.Need-enter-requires
+enter-requires c κs = search needs
+
+fold-x-requires : tie.Need-fold-x-requires
+fold-x-requires c κs = search needs
+
+same-length : tie.Need-same-length
+same-length c = search needs
+
+same-length-2 : tie.Need-same-length-2
+same-length-2 c = search needs
+
+same-length-3 : tie.Need-same-length-3
+same-length-3 c = search needs
+
+returns : tie.Need-returns
+unfolding entered
+returns c =
+    let e = (c .before .before .before .before .before .before .before .before .before) .enter .ensures in
+    record { joined = flip-joined (e .joined) _ _ _ (e .at) (e .name) (c .fold-x .ensures); terms = c .fold-x .ensures .terms ∙ e .terms }
+
+pub absorb-x-spec : {M : Type 1} → statement M
+absorb-x-spec =
+    tie.close
+    (tie.spec enter-requires fold-x-requires same-length same-length-2 same-length-3 returns)

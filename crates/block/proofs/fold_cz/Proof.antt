@@ -1,0 +1,82 @@
+-- `block::fold_cz` meets its contract: three folds, one after the other.
+use mathlib.Core.Bool.{Bool, not, Bool·beq}
+use native.Mathlib.Omega.{arith}
+use Rattle.parity.specs.View.{val}
+use Rattle.terms.proofs.Room.{room-same}
+use Rattle.block.proofs.Folding.{cz-turns, differ-is}
+use borrow.Author.Needs.{needs}
+use Rattle.block.proofs.fold_cz.Statement.{statement}
+use Rattle.block.proofs.fold_cz.Tie as tie
+
+cast-get : tie.Need-cast-get
+cast-get c = search needs
+
+get-requires : tie.Need-get-requires
+get-requires c κs = search needs
+
+cast-get-2 : tie.Need-cast-get-2
+cast-get-2 c = search needs
+
+get-requires-2 : tie.Need-get-requires-2
+get-requires-2 c κs = search needs
+
+has-requires : tie.Need-has-requires
+has-requires c κs = search needs
+
+has-requires-2 : tie.Need-has-requires-2
+has-requires-2 c κs = search needs
+
+fold-requires : tie.Need-fold-requires
+fold-requires c κs = search needs
+
+fold-requires-2 : tie.Need-fold-requires-2
+fold-requires-2 c κs =
+    let s = (c .before .before .before .before .before .before .before .before .before .before .before .before .before) in
+    let f = (c .before .before .before) .fold in
+    omega (arith, f .ensures .more, room-same (f .last .1 .1 .1 .1 .0) (s .args .room .now) (f .kept .1 .1 .1 .1 .0), s .pre .1)
+
+xor-requires : tie.Need-xor-requires
+xor-requires c κs = search needs
+
+fold-requires-3 : tie.Need-fold-requires-3
+fold-requires-3 c κs =
+    let s = (c .before .before .before .before .before .before .before .before .before .before .before .before .before .before .before .before .before .before) in
+    let f = (c .before .before .before .before .before .before .before .before) .fold in
+    let g = (c .before .before .before .before) .fold2 in
+    omega (
+      arith,
+      f .ensures .more,
+      g .ensures .more,
+      room-same (f .last .1 .1 .1 .1 .0) (s .args .room .now) (f .kept .1 .1 .1 .1 .0),
+      room-same (g .last .1 .1 .1 .1 .0) (f .last .1 .1 .1 .1 .0) (g .kept .1 .1 .1 .1 .0),
+      s .pre .1,
+    )
+
+same-length : tie.Need-same-length
+same-length c = search needs
+
+returns : tie.Need-returns
+returns c =
+    let a : Bool = (c .before .before .before .before .before .before .before .before .before .before .before .before .before .before) .has .result in
+    let b : Bool = (c .before .before .before .before .before .before .before .before .before .before .before .before .before) .has2 .result in
+    rw ((c .before .before .before .before .before .before .before .before .before .before .before .before .before .before .before .before .before) .get .ensures, (c .before .before .before .before .before .before .before .before .before .before .before .before .before .before .before) .get2 .ensures, (c .before .before .before .before .before .before .before .before .before .before .before .before .before .before) .has .ensures, (c .before .before .before .before .before .before .before .before .before .before .before .before .before) .has2 .ensures) at
+    (cz-turns (val ((c .before .before .before .before .before .before .before .before .before .before .before .before .before .before .before .before .before) .get .result)) (val ((c .before .before .before .before .before .before .before .before .before .before .before .before .before .before .before) .get2 .result)) (val ((c .before .before .before .before) .xor .result)) a b (not (Bool·beq a b)) ((c .before .before .before .before .before .before .before .before .before .before .before .before .before .before .before .before .before .before .before .before .before) .args .b) ((c .before .before .before .before .before .before .before .before .before .before .before) .fold .result) ((c .before .before .before .before .before .before .before) .fold2 .result) ((c .before .before) .fold3 .result)
+    ((c .before .before .before .before .before .before .before .before .before .before .before .before .before .before .before .before .before .before .before .before .before) .args .room .now) ((c .before .before .before .before .before .before .before .before .before .before .before) .fold .last .1 .1 .1 .1 .0) ((c .before .before .before .before .before .before .before) .fold2 .last .1 .1 .1 .1 .0) ((c .before .before) .fold3 .last .1 .1 .1 .1 .0)
+    ((c .before .before .before .before .before .before .before .before .before .before .before) .fold .ensures .turns) ((c .before .before .before .before .before .before .before) .fold2 .ensures .turns) ((c .before .before) .fold3 .ensures .turns) ((c .before .before .before .before) .xor .ensures) (differ-is a b))
+
+pub fold-cz-spec : {M : Type 1} → statement M
+fold-cz-spec =
+    tie.close
+    (tie.spec
+    cast-get
+    get-requires
+    cast-get-2
+    get-requires-2
+    has-requires
+    has-requires-2
+    fold-requires
+    fold-requires-2
+    xor-requires
+    fold-requires-3
+    same-length
+    returns)

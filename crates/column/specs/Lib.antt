@@ -1,0 +1,2 @@
+-- What the choice of a column promises.
+pub mod Choice

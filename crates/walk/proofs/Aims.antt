@@ -1,0 +1,110 @@
+-- A slot's target and what it owes as document 01's aim, and the turn of a node by its aim.
+use mathlib.Core.Path.{_≡_, refl, sym, ap, _∙_}
+use mathlib.Core.Logic.{_≢_}
+use mathlib.Core.Bool.{Bool, true, false, not, _&&_, cond, false≢true, true≢false}
+use mathlib.Core.List.{List, [], _∷_, append-nil}
+use Prim.Native.Nat.{ℕ, zero, suc, _%_, _^_, _<_}
+use native.Mathlib.Nat.{not-suc-le-zero}
+use native.Mathlib.Omega.{arith}
+use borrow.Author.Tests.{eq-eqb, ne-eqb, eqb-true, eqb-false}
+use lib.ListN.{length, getD}
+use lib.Dec.{eqb}
+use Rattle.rules.specs.Bit.{xor}
+use Rattle.rules.specs.Fold.{Term}
+use Rattle.rules.specs.Gate.{gate2, codeCnot}
+use Rattle.rules.specs.Walk.{Aim, free, on, owes, Node, side, best, turns, leaf, aimWith, isNone, crossNodes, turn}
+use Rattle.rules.specs.Walk as Walk
+use Rattle.rules.specs.Synth.{rotation, emit}
+use Rattle.rules.proofs.Bits.{split}
+use Rattle.rules.proofs.Machine.{node}
+use Rattle.rules.proofs.Walking.{Settled}
+use Rattle.parity.specs.declared.Parity.{Parity}
+use Rattle.walk.specs.declared.Slot.{Slot}
+use Rattle.walk.specs.Stack.{nothing, aimTo, aimOf, owing, Aimed, takes, leaves, paid}
+
+-- ---- aims
+
+module _ (s : Slot) where
+  pub aim-owes : owing s ≡ true → (aimOf s ≡ owes (s .owed) (s .target)) × ((s .target ≢ nothing) × (s .owed ≢ nothing))
+  aim-owes h =
+      split (eqb (s .target) nothing)
+      (λ e. absurd (false≢true (rw e at h)))
+      (λ e. split (eqb (s .owed) nothing)
+      (λ f. absurd (false≢true (rw (e, f) at h)))
+      (λ f. (rw (e, f), (eqb-false _ _ e, eqb-false _ _ f))))
+
+  pub aim-settled : owing s ≡ false → aimOf s ≡ aimTo (s .target)
+  aim-settled h =
+      split (eqb (s .target) nothing)
+      (λ e. rw e)
+      (λ e. split (eqb (s .owed) nothing) (λ f. rw (e, f)) (λ f. absurd (true≢false (rw (e, f) at h))))
+
+  pub aim-paid : s .target ≢ nothing → aimOf (paid s) ≡ on (s .target)
+  aim-paid h = rw (ne-eqb (s .target) nothing h)
+
+  module _ (rest : Parity) (c : ℕ) where
+    pub takes-cands : takes s rest c .cands ≡ rest
+    takes-cands = split (eqb (s .target) nothing) (λ e. rw e) (λ e. rw e)
+
+    pub takes-start : takes s rest c .start ≡ s .start
+    takes-start = split (eqb (s .target) nothing) (λ e. rw e) (λ e. rw e)
+
+    pub takes-aim : c < 128 → aimOf (takes s rest c) ≡ aimWith (aimTo (s .target)) c
+    takes-aim l =
+        let f = ne-eqb c nothing (λ q. omega arith) in
+        split (eqb (s .target) nothing) (λ e. rw e (rw f)) (λ e. rw e (rw (e, f)))
+
+    pub takes-aimed : (n : ℕ) → c < n → Aimed n s → Aimed n (takes s rest c)
+    takes-aimed n l a =
+        split (eqb (s .target) nothing)
+        (λ e. rw e (record { target = λ q. l; owed = λ q. absurd (q refl) }))
+        (λ e. rw e (record { target = a .target; owed = λ q. l }))
+
+pub settled-to : (t : ℕ) → Settled (aimTo t)
+settled-to t = split (eqb t nothing) (λ e. rw e tt) (λ e. rw e tt)
+
+-- ---- the turn of a node
+
+module _ (n : ℕ) (st : List Node) where
+  pub turn-none : (cs : ℕ) (a : Aim) → turn n (node cs a []) st ≡ record { steps = []; stack = st }
+  unfolding turn
+  turn-none cs a = refl
+
+  pub turn-pay : (cs p t : ℕ) (ts : List Term) → 0 < length ts
+      → turn n (node cs (owes p t) ts) st ≡ record { steps = Walk.cn p t ∷ []; stack = node cs (on t) ts ∷ crossNodes p t st }
+  unfolding turn
+  turn-pay cs p t [] h = absurd (not-suc-le-zero h)
+  turn-pay cs p t (e ∷ es) h = refl
+
+  open-as : (cs : ℕ) (a : Aim) (ts : List Term) → Settled a → 0 < length ts → turn n (node cs a ts) st ≡ Walk.openNode n cs a ts st
+  unfolding turn
+  open-as cs a [] s h = absurd (not-suc-le-zero h)
+  open-as cs free (e ∷ es) s h = refl
+  open-as cs (on t) (e ∷ es) s h = refl
+  open-as cs (owes p t) (e ∷ es) s h = absurd s
+
+  pub turn-leaf : (cs : ℕ) (a : Aim) (ts : List Term) → Settled a → 0 < length ts → isNone cs ≡ true → turn n (node cs a ts) st ≡ record { steps = leaf a ts; stack = st }
+  unfolding turn
+  turn-leaf cs a ts s h e = open-as cs a ts s h ∙ rw e
+
+  pub turn-split : (cs : ℕ) (a : Aim) (ts : List Term) (c rest : ℕ) → Settled a → 0 < length ts → isNone cs ≡ false → c ≡ best n cs ts .0 → rest ≡ xor cs (2 ^ c)
+      → turn n (node cs a ts) st ≡ record { steps = []; stack = node rest a (side false c ts) ∷ node rest (aimWith a c) (side true c ts) ∷ st }
+  unfolding turn
+  turn-split cs a ts c rest s h e f g = open-as cs a ts s h ∙ rw (e, g, f)
+
+-- ---- what a leaf emits
+
+module _ (names : List ℕ) (t : ℕ) (ts : List Term) where
+  pub leaf-free : t ≡ nothing → emit names (leaf (aimTo t) ts) ≡ []
+  unfolding emit
+  leaf-free h = rw (eq-eqb t nothing h)
+
+  pub leaf-on : t ≢ nothing → (q k : ℕ) → q ≡ getD names t 0 → k ≡ turns ts % 8 → emit names (leaf (aimTo t) ts) ≡ rotation k q
+  unfolding emit
+  leaf-on h q k e f = rw (ne-eqb t nothing h, e, f) (append-nil _)
+
+-- ---- what a CNOT emits
+
+pub emit-cn : (names : List ℕ) (p t x y : ℕ) → x ≡ getD names p 0 → y ≡ getD names t 0 → emit names (Walk.cn p t ∷ []) ≡ gate2 codeCnot x y ∷ []
+unfolding emit
+emit-cn names p t x y e f = rw (e, f)

@@ -1,0 +1,8 @@
+-- Laws that belong to no one function.
+pub mod Slots
+pub mod Summing
+pub mod Stacks
+pub mod Aims
+pub mod Splitting
+pub mod Steps
+pub mod Looping

@@ -1,0 +1,90 @@
+-- `walk::pay` meets its contract, by what is emitted, added, flipped and stored.
+use mathlib.Core.Path.{_≡_, ap, _∙_}
+use native.Mathlib.Omega.{arith}
+use borrow.Author.Needs.{needs}
+use lib.ListN.{set}
+use Rattle.walk.specs.Stack.{slotsOf}
+use Rattle.walk.proofs.Aims.{emit-cn}
+use Rattle.walk.proofs.pay.Statement.{statement}
+use Rattle.walk.proofs.pay.Tie as tie
+
+cast-p : tie.Need-cast-p
+cast-p c = omega (arith, (c .before .before .before .before .before) .pre .1 .0 .0, (c .before .before .before .before .before) .pre .0 .few)
+
+cast-t : tie.Need-cast-t
+cast-t c = omega (arith, (c .before .before .before .before .before .before) .pre .1 .0 .1, (c .before .before .before .before .before .before) .pre .0 .few)
+
+wire-of-requires : tie.Need-wire-of-requires
+wire-of-requires c κs = (c .before .before .before .before .before .before) .pre .1 .0 .0
+
+wire-of-requires-2 : tie.Need-wire-of-requires-2
+wire-of-requires-2 c κs = (c .before .before .before .before .before .before .before) .pre .1 .0 .1
+
+emit-cnot-requires : tie.Need-emit-cnot-requires
+emit-cnot-requires c κs =
+    let s = (c .before .before .before .before .before .before .before .before .before) in
+    (s .pre .1 .1 .1 .1, (rw ((c .before .before) .wire-of .ensures) (s .pre .0 .each (s .args .d .owed) (s .pre .1 .0 .0)), rw ((c .before) .wire-of2 .ensures) (s .pre .0 .each (s .args .d .target) (s .pre .1 .0 .1))))
+
+cast-add : tie.Need-cast-add
+cast-add c = omega (arith, (c .before .before .before .before .before .before .before .before .before .before .before .before) .pre .1 .0 .0, (c .before .before .before .before .before .before .before .before .before .before .before .before) .pre .0 .few)
+
+cast-add-2 : tie.Need-cast-add-2
+cast-add-2 c = omega (arith, (c .before .before .before .before .before .before .before .before .before .before .before .before) .pre .1 .0 .1, (c .before .before .before .before .before .before .before .before .before .before .before .before) .pre .0 .few)
+
+add-requires : tie.Need-add-requires
+add-requires c κs =
+    let s = (c .before .before .before .before .before .before .before .before .before .before .before .before) in
+    (rw (s .pre .1 .1 .0) (s .pre .1 .0 .0), rw (s .pre .1 .1 .0) (s .pre .1 .0 .1))
+
+flip-requires : tie.Need-flip-requires
+flip-requires c κs =
+    let s = (c .before .before .before .before .before .before .before .before .before .before .before .before .before .before .before .before) in
+    (omega (arith, s .pre .1 .0 .0, s .pre .0 .few), (omega (arith, s .pre .1 .0 .1, s .pre .0 .few), s .pre .1 .1 .1 .0 .0))
+
+put-requires : tie.Need-put-requires
+put-requires c κs = (c .before .before .before .before .before .before .before .before .before .before .before .before .before .before .before .before .before .before .before .before .before) .pre .1 .1 .1 .0 .1
+
+same-length : tie.Need-same-length
+same-length c = search needs
+
+same-length-2 : tie.Need-same-length-2
+same-length-2 c = search needs
+
+same-length-3 : tie.Need-same-length-3
+same-length-3 c = search needs
+
+same-length-4 : tie.Need-same-length-4
+same-length-4 c = search needs
+
+returns : tie.Need-returns
+returns c =
+    record {
+      emits = rw (emit-cn _ _ _ _ _ ((c .before .before .before .before .before .before .before .before .before .before .before .before .before .before .before .before .before) .wire-of .ensures) ((c .before .before .before .before .before .before .before .before .before .before .before .before .before .before .before .before) .wire-of2 .ensures)) ((c .before .before .before .before .before .before .before .before .before .before .before .before .before .before) .emit-cnot .ensures);
+      rows = (c .before .before .before .before .before .before .before .before .before .before .before) .add .ensures;
+      terms = (c .before .before .before .before .before .before .before) .flip .ensures;
+      slots = (c .before .before) .put .ensures ∙ ap (set (slotsOf ((c .before .before .before .before .before .before .before .before .before .before .before .before .before .before .before .before .before .before .before .before .before .before .before .before) .args .nodes .now)) ((c .before .before .before .before .before .before .before .before .before .before .before .before .before .before .before .before .before .before .before .before .before .before .before .before) .args .at)) ((c .before .before .before) .paid .ensures);
+    }
+
+paid-requires : tie.Need-paid-requires
+paid-requires c κs = tt
+
+pub pay-spec : {M : Type 1} → statement M
+pay-spec =
+    tie.close
+    (tie.spec
+    cast-p
+    cast-t
+    wire-of-requires
+    wire-of-requires-2
+    emit-cnot-requires
+    cast-add
+    cast-add-2
+    add-requires
+    flip-requires
+    paid-requires
+    put-requires
+    same-length
+    same-length-2
+    same-length-3
+    same-length-4
+    returns)

@@ -1,0 +1,3 @@
+-- The stack of the phase walk in its lent room, and what a turn of the walk promises.
+pub mod Stack
+pub mod Place

@@ -1,0 +1,294 @@
+// Document 01's phase walk over lent rooms: the waiting nodes in a stack of their own, their sets side by side in the room of terms.
+use budget::Budget;
+use budget::Pushed;
+use join::Local;
+use parity::Parity;
+ghost use mathlib.Core.Path.{_≡_};
+ghost use mathlib.Core.Logic.{_≢_};
+ghost use mathlib.Core.List.{[], _∷_};
+ghost use Prim.Native.Nat.{_+_, _-_, _%_, _^_, _<_, _≤_};
+ghost use lib.ListN.{length, getD, set};
+ghost use Rattle.rules.specs.Walk.{free, turns, leaf};
+ghost use Rattle.rules.specs.Synth as Synth;
+ghost use Rattle.rules.proofs.Machine.{node};
+ghost use Rattle.rules.proofs.Turning.{left};
+ghost use Rattle.parity.specs.View.{val};
+ghost use Rattle.budget.specs.View.{view};
+ghost use Rattle.terms.specs.Terms.{termsOf};
+ghost use Rattle.rows.specs.Rows.{rowsOf};
+ghost use Rattle.emit.specs.Emitted.{Ready, Emits};
+ghost use Rattle.walk.specs.Stack.{nothing, slotsOf, noSlot, aimTo, Branched};
+ghost use Rattle.walk.specs.Stack as Stack;
+ghost use Rattle.walk.specs.Place.{Wires, placeOf, Standing, Stepped, Paid, Lent, stateOf, Synthesized};
+
+// Numbers to a node: its candidates' low and high word, its target, the control that it owes, where its set begins.
+pub const NODE_WIDTH: usize = 5;
+
+// No target, or nothing owed.
+pub const NONE: u64 = 128;
+
+// A waiting node. Its set ends where that of the next begins.
+pub struct Slot {
+    pub cands: Parity,
+    pub target: u64,
+    pub owed: u64,
+    pub start: usize,
+}
+
+// How many nodes wait, where the newest one's set ends, and the budget, with whether it is still kept.
+pub struct State {
+    pub depth: usize,
+    pub end: usize,
+    pub budget: Budget,
+    pub within: bool,
+}
+
+pub fn get(nodes: &[u64], i: usize) -> Slot
+    requires { ⌜ i < length (slotsOf (now nodes)) ⌝ }
+    ensures { λ r. ⌜ r ≡ getD (slotsOf (now (nodes .entry))) i noSlot ⌝ }
+{
+    let at = NODE_WIDTH * i;
+    let lo = nodes[at];
+    let hi = nodes[at + 1];
+    let target = nodes[at + 2];
+    let owed = nodes[at + 3];
+    let start = nodes[at + 4] as usize;
+    Slot {
+        cands: Parity { lo, hi },
+        target,
+        owed,
+        start,
+    }
+}
+
+pub fn put(nodes: &mut [u64], i: usize, s: Slot)
+    requires { ⌜ i < length (slotsOf (now nodes)) ⌝ }
+    ensures { λ r. ⌜ slotsOf (now (nodes .exit)) ≡ set (slotsOf (now (nodes .entry))) i s ⌝ }
+{
+    let at = NODE_WIDTH * i;
+    nodes[at] = s.cands.lo;
+    nodes[at + 1] = s.cands.hi;
+    nodes[at + 2] = s.target;
+    nodes[at + 3] = s.owed;
+    nodes[at + 4] = s.start as u64;
+}
+
+// The sum of a set's turns.
+pub fn sum_turns(set: &[u64]) -> u8
+    ensures { λ r. ⌜ r ≡ turns (termsOf (now (set .entry))) % 8 ⌝ }
+{
+    let count = set.len() / 3;
+    let mut sum: u8 = 0;
+    let mut i = 0;
+    while i < count {
+        let e = terms::get(set, i);
+        sum = turn::fold(sum, (e.turn % 8) as u8);
+        i += 1;
+    }
+    sum
+}
+
+// A node with no candidates left: the rotation on its target by the sum of its turns; nothing where it has no target.
+pub fn end_leaf(set: &[u64], target: u64, names: &[u32], out: &mut [i32], b: Budget) -> Pushed
+    requires { ⌜ Wires (now names) ⌝ }
+    requires { ⌜ (target ≢ nothing → target < length (now names)) ⌝ }
+    requires { ⌜ Ready (now out) (view b) ⌝ }
+    ensures { λ r. ⌜ Emits (Synth.emit (now (names .entry)) (leaf (aimTo target) (termsOf (now (set .entry))))) (now (out .entry)) (view b) (now (out .exit)) (view (r .budget)) (r .within) ⌝ }
+{
+    if target == NONE {
+        return Pushed {
+            budget: b,
+            within: true,
+        };
+    }
+    let q = join::wire_of(names, Local(target as u32));
+    emit::emit_rotation(out, b, q, sum_turns(set))
+}
+
+// What is owed is paid.
+fn paid(d: Slot) -> Slot
+    ensures { λ r. ⌜ r ≡ Stack.paid d ⌝ }
+{
+    let cands = d.cands;
+    Slot {
+        cands,
+        target: d.target,
+        owed: NONE,
+        start: d.start,
+    }
+}
+
+// The owed control of the node at the place `at` is paid: the CNOT is emitted, its row added, and the terms of every waiting node take note.
+pub fn pay(
+    room: &mut [u64],
+    nodes: &mut [u64],
+    held: &mut [u64],
+    names: &[u32],
+    out: &mut [i32],
+    b: Budget,
+    at: usize,
+    d: Slot,
+) -> Pushed
+    requires { ⌜ Wires (now names) ⌝ }
+    requires { ⌜ (d .owed < length (now names)) × (d .target < length (now names)) ⌝ }
+    requires { ⌜ length (rowsOf (now held)) ≡ length (now names) ⌝ }
+    requires { ⌜ (d .start ≤ length (termsOf (now room))) × (at < length (slotsOf (now nodes))) ⌝ }
+    requires { ⌜ Ready (now out) (view b) ⌝ }
+    ensures { λ r. ⌜ Paid (now (names .entry)) d at (termsOf (now (room .entry))) (termsOf (now (room .exit))) (slotsOf (now (nodes .entry))) (slotsOf (now (nodes .exit))) (rowsOf (now (held .entry))) (rowsOf (now (held .exit))) (now (out .entry)) (view b) (now (out .exit)) (view (r .budget)) (r .within) ⌝ }
+{
+    let p = d.owed as u32;
+    let t = d.target as u32;
+    let control = join::wire_of(names, Local(p));
+    let target = join::wire_of(names, Local(t));
+    let w = emit::emit_cnot(out, b, control, target);
+    rows::add(held, p as usize, t as usize);
+    terms::flip(room, d.start, p, t);
+    put(nodes, at, paid(d));
+    w
+}
+
+// The side with the column c: it takes c as target or, with a target, owes c to it.
+fn takes(d: Slot, rest: Parity, c: u32) -> Slot
+    ensures { λ r. ⌜ r ≡ Stack.takes d rest c ⌝ }
+{
+    let cands = rest;
+    let start = d.start;
+    if d.target == NONE {
+        Slot {
+            cands,
+            target: c as u64,
+            owed: NONE,
+            start,
+        }
+    } else {
+        Slot {
+            cands,
+            target: d.target,
+            owed: c as u64,
+            start,
+        }
+    }
+}
+
+// The side without: its set begins where the other's ends.
+fn leaves(d: Slot, rest: Parity, ones: usize) -> Slot
+    requires { ⌜ d .start + ones < 2 ^ 64 ⌝ }
+    ensures { λ r. ⌜ r ≡ Stack.leaves d rest ones ⌝ }
+{
+    let cands = rest;
+    let start = d.start + ones;
+    Slot {
+        cands,
+        target: d.target,
+        owed: d.owed,
+        start,
+    }
+}
+
+// The newest node, at the place `at`, is split by its best column: the side with it stays, the side without goes on top and runs first.
+pub fn branch(room: &mut [u64], nodes: &mut [u64], at: usize, d: Slot, end: usize)
+    requires { ⌜ (d .start < end) × (end ≤ length (termsOf (now room))) ⌝ }
+    requires { ⌜ at + 1 < length (slotsOf (now nodes)) ⌝ }
+    ensures { λ r. ⌜ Branched d at end (termsOf (now (room .entry))) (termsOf (now (room .exit))) (slotsOf (now (nodes .entry))) (slotsOf (now (nodes .exit))) ⌝ }
+{
+    let a = 3 * d.start;
+    let e = 3 * end;
+    let c = column::best_column(&room[a..e], d.cands);
+    let ones = terms::split_at(room, d.start, end, c);
+    let rest = d.cands.xor(Parity::single(c));
+    let above = at + 1;
+    let with = takes(d, rest, c);
+    let without = leaves(d, rest, ones);
+    put(&mut *nodes, at, with);
+    put(&mut *nodes, above, without);
+}
+
+// The state after a turn.
+fn after(depth: usize, end: usize, w: Pushed) -> State
+    ensures { λ r. ⌜ r ≡ stateOf depth end w ⌝ }
+{
+    let budget = w.budget;
+    State {
+        depth,
+        end,
+        budget,
+        within: w.within,
+    }
+}
+
+// One turn of the walk, at the newest node, by document 01's four rules.
+pub fn step(
+    room: &mut [u64],
+    nodes: &mut [u64],
+    held: &mut [u64],
+    names: &[u32],
+    out: &mut [i32],
+    s: State,
+) -> State
+    requires { ⌜ Standing (now names) (placeOf (now nodes) (now room) (now held) (now out) s) ⌝ }
+    requires { ⌜ 0 < s .depth ⌝ }
+    ensures { λ r. ⌜ Stepped (now (names .entry)) (placeOf (now (nodes .entry)) (now (room .entry)) (now (held .entry)) (now (out .entry)) s) (placeOf (now (nodes .exit)) (now (room .exit)) (now (held .exit)) (now (out .exit)) r) (r .within) ⌝ }
+{
+    let at = s.depth - 1;
+    let d = get(&*nodes, at);
+    let b = s.budget;
+    let end = s.end;
+    let quiet = Pushed {
+        budget: b,
+        within: true,
+    };
+    if d.start == end {
+        return after(at, end, quiet);
+    }
+    if (d.target != NONE) & (d.owed != NONE) {
+        let w = pay(room, nodes, held, names, out, b, at, d);
+        return after(s.depth, end, w);
+    }
+    if d.cands.is_zero() {
+        let w = end_leaf(&room[3 * d.start..3 * end], d.target, names, out, b);
+        return after(at, d.start, w);
+    }
+    branch(room, nodes, at, d, end);
+    after(s.depth + 1, end, quiet)
+}
+
+// The node with which the walk begins: no target, nothing owed, all the terms.
+fn first(cands: Parity) -> Slot
+    ensures { λ r. ⌜ r ≡ Stack.first cands ⌝ }
+{
+    Slot {
+        cands,
+        target: NONE,
+        owed: NONE,
+        start: 0,
+    }
+}
+
+// The phase walk of a block's terms over n columns: its steps are emitted, and `held` follows. It ends early where the budget is spent.
+pub fn gray_synth(
+    room: &mut [u64],
+    n: u32,
+    nodes: &mut [u64],
+    held: &mut [u64],
+    names: &[u32],
+    out: &mut [i32],
+    b: Budget,
+) -> Pushed
+    requires { ⌜ Lent n (now names) (now nodes) (now held) (now out) (view b) ⌝ }
+    ensures { λ r. ⌜ Synthesized (now (names .entry)) (left n (node (2 ^ n - 1) free (termsOf (now (room .entry))) ∷ [])) (now (out .entry)) (view b) (rowsOf (now (held .entry))) (now (out .exit)) (view (r .budget)) (rowsOf (now (held .exit))) (r .within) ⌝ }
+{
+    put(&mut *nodes, 0, first(Parity::all(n)));
+    let quiet = Pushed {
+        budget: b,
+        within: true,
+    };
+    let mut s = after(1, room.len() / 3, quiet);
+    while (s.depth > 0) & s.within {
+        s = step(&mut *room, &mut *nodes, &mut *held, names, &mut *out, s);
+    }
+    let budget = s.budget;
+    Pushed {
+        budget,
+        within: s.within,
+    }
+}
