@@ -18,7 +18,7 @@ unsafe extern "C" {
     fn timing_walk(
         room: *mut u64, room_len: usize, nodes: *mut u64, nodes_len: usize, held: *mut u64, held_len: usize,
         names: *const u32, names_len: usize, out: *mut i32, out_len: usize, two: usize, all: usize,
-    ) -> u64;
+    ) -> usize;
 }
 
 /// A small generator of random numbers, so that the inputs are the same in every run.
@@ -149,7 +149,7 @@ fn numbers(gates: &[Gate]) -> Vec<i32> {
 fn walk(name: &str, n: usize, inputs: Vec<Vec<(u128, Angle)>>) {
     let wires: Vec<u32> = (0..n as u32).collect();
     let flat: Vec<_> = inputs.iter().map(|t| room(t)).collect();
-    let all = 20_000;
+    let all = 80_000;
     let (mut theirs_room, mut state) = (doors::Room::default(), Vec::new());
     let (mut terms, mut nodes, mut held, mut out) = (vec![0u64; flat[0].len()], vec![0u64; 5 * 129], vec![0u64; 2 * n], vec![0i32; 5 * all]);
     let units: Vec<u64> = words(&(0..n).map(|i| 1u128 << i).collect::<Vec<_>>());
@@ -157,7 +157,7 @@ fn walk(name: &str, n: usize, inputs: Vec<Vec<(u128, Angle)>>) {
         terms.copy_from_slice(set);
         held.copy_from_slice(&units);
         timing_walk(terms.as_mut_ptr(), terms.len(), nodes.as_mut_ptr(), nodes.len(), held.as_mut_ptr(), held.len(),
-            wires.as_ptr(), wires.len(), out.as_mut_ptr(), out.len(), all, all) as usize
+            wires.as_ptr(), wires.len(), out.as_mut_ptr(), out.len(), all, all)
     };
     for (t, set) in inputs.iter().zip(&flat) {
         let made = numbers(doors::walk(&mut theirs_room, n, t, &mut state, &wires, all, all).expect("room enough"));

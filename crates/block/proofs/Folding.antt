@@ -18,6 +18,7 @@ use Rattle.rules.specs.Meaning.{flip, phase, cnot, cz}
 use Rattle.rules.specs.Fold.{Row, Term, Block, addRow, addTerm, signed, entered, rowsBy, termsBy, absorb, join}
 use Rattle.rules.specs.Close.{addTo}
 use Rattle.rules.proofs.Bits.{split, same, bit-xor, bit-unit, bit-zero, ⊕-false}
+use Rattle.rules.proofs.Bounds.{length-addTerm}
 use Rattle.parity.specs.View.{val}
 use Rattle.parity.proofs.Laws.{xor-zero-r}
 use Rattle.terms.specs.Terms.{termsOf, Begins}
@@ -94,11 +95,6 @@ module _ {rs : List Row} {b : State.Block} {table names rows : List ℕ} (h : Jo
 
 -- ---- terms
 
-length-addTerm : (p k : ℕ) (ts : List Term) → length (addTerm p k ts) ≤ length ts + 1
-unfolding addTerm
-length-addTerm p k [] = omega arith
-length-addTerm p k (t ∷ ts) = split (eqb (t .parity) p) (λ e. rw e (omega arith)) (λ e. rw e (omega (arith, length-addTerm p k ts)))
-
 pub terms-length : {ts : List Term} {b : State.Block} {room : List ℕ} → Folded ts b room → length ts ≡ b .terms
 unfolding termsAt
 terms-length {ts} {b} {room} h = ap length (sym (h .same)) ∙ length-take-le (b .terms) (termsOf room) (h .few)
@@ -120,6 +116,11 @@ folded-more p k n m us vs e = omega (arith, e .many, length-addTerm p k (take n 
 pub terms-same : (b r : State.Block) (room : List ℕ) → r .terms ≡ b .terms → termsAt r room ≡ termsAt b room
 unfolding termsAt
 terms-same b r room e = rw e
+
+-- the fold of a rotation, by what was read of its wire
+pub turn-turns : (p v : ℕ) (s t : Bool) (k : ℕ) (ts : List Term) (b r : State.Block) (room : List ℕ) → p ≡ v → s ≡ t
+    → Turns (addTerm p (signed s k) ts) b r room → Turns (addTerm v (signed t k) ts) b r room
+turn-turns p v s t k ts b r room e f h = rw (e, f) at h
 
 -- the constants differ, as the code tests it
 pub differ-is : (s t : Bool) → not (Bool·beq s t) ≡ (s ⊕ t)

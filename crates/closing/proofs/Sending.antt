@@ -165,3 +165,11 @@ module _ (from to names : List ℕ) (out : List ℤ) (b : Budget) where
           emits = λ c q. subst (λ (s : List Step). Emits (emit names s) out b out′ b′ w) (Option·some-injective (backwards steps k) c (sym is ∙ q)) h;
           lost = λ q. absurd (Option·none-ne-some (backwards steps k) (sym q ∙ is));
         }
+
+-- made, so there is a closing map, and room for more
+pub closes-ready : (from to names : List ℕ) (out : List ℤ) (b : Budget) (out′ : List ℤ) (b′ : Budget) → Closes from to names out b out′ b′ true → Ready out′ b′
+closes-ready from to names out b out′ b′ k = go (closing from to) refl
+  where
+    go : (o : Option (List Step)) → closing from to ≡ o → Ready out′ b′
+    go none e = absurd (true≢false (k .lost e))
+    go (some c) e = k .emits c e .ready refl

@@ -1,7 +1,7 @@
 -- The join table as wires join and leave.
 --     joined-once        two names below n are the same only at one index
 --     joins-none         a table of zeros: no wire has joined
---     enter-joins        one wire more
+--     enter-joins, enters-is    one wire more
 --     Leaving            what is left in the table after i of n wires have left: leave-none, leave-turn, leave-all
 use mathlib.Core.Path.{_≡_, refl, sym, ap, _∙_}
 use mathlib.Core.List.{List}
@@ -12,7 +12,7 @@ use lib.ListN.{length, getD, set, length-set}
 use lib.Seq.{getD-set-same, getD-set-other}
 use Rattle.rules.specs.Limits.{maxColumns}
 use Rattle.rules.proofs.Bits.{same}
-use Rattle.join.specs.Tables.{Joins, Joinable, Leaves}
+use Rattle.join.specs.Tables.{Joins, Joinable, Enters, Leaves}
 
 pub joined-once : {table names : List ℕ} {n : ℕ} → Joins table names n → (i j : ℕ) → i < n → j < n → getD names i 0 ≡ getD names j 0 → i ≡ j
 joined-once {table} j a b ha hb e =
@@ -61,6 +61,10 @@ module _ (table names : List ℕ) (n q : ℕ) (h : Joinable table names n q) whe
         (λ u t. let b = h .joins .back p i (sym (getD-set-other table q p (suc n) 0 u) ∙ e) in
         (omega (arith, b .0), names-old i (b .0) ∙ b .1));
   }
+
+-- what the code stores; v is the entry
+pub enters-is : (table names : List ℕ) (n q v : ℕ) → Joinable table names n q → v ≡ suc n → Enters table names n q (set table q v) (set names n q)
+enters-is table names n q v h e = rw e (record { joins = enter-joins table names n q h; entry = refl; name = refl })
 
 -- after i of n wires have left
 pub record Leaving (start names : List ℕ) (n i : ℕ) (table : List ℕ) : Type 0 where

@@ -267,7 +267,7 @@ fold-snoc [] o b = refl
 fold-snoc (a ∷ os) o b = fold-snoc os o (absorb a b)
 
 -- a gate adds three terms at most
-length-addTerm : (p k : ℕ) (ts : List Term) → length (addTerm p k ts) ≤ length ts + 1
+pub length-addTerm : (p k : ℕ) (ts : List Term) → length (addTerm p k ts) ≤ length ts + 1
 unfolding addTerm
 length-addTerm p k [] = omega arith
 length-addTerm p k (t ∷ ts) = split (eqb (t .parity) p) (λ e. rw e (omega arith)) (λ e. rw e (omega (arith, length-addTerm p k ts)))

@@ -11,8 +11,8 @@ use Rattle.block.proofs.absorb.Tie as tie
 absorb-x-requires : tie.Need-absorb-x-requires
 unfolding entered
 absorb-x-requires c κs =
-    let s = (c .before .before .before .before .before .before .before .before) in
-    let o = op-x (s .args .g) ((c .before .before .before) .if1 .taken) in
+    let s = c .before .before .before .before .before .before .before .before in
+    let o = op-x (s .args .g) (c .before .before .before .if1 .taken) in
     record { rowed = s .pre .sound .rows-are; inside = s .pre .wired .first-in; few = rw o at (s .pre .few) }
 
 same-length : tie.Need-same-length
@@ -26,14 +26,14 @@ same-length-3 c = search needs
 
 returns : tie.Need-returns
 returns c =
-    let s = (c .before .before .before .before .before .before .before .before .before .before .before .before .before .before .before) in
-    rw (op-x (s .args .g) ((c .before .before .before .before .before .before .before .before .before .before) .if1 .taken)) (flip-holds _ _ _ _ _ _ _ _ _ ((c .before .before .before .before .before .before) .absorb-x .ensures) (s .pre .sound .terms-are))
+    let s = c .before .before .before .before .before .before .before .before .before .before .before .before .before .before .before in
+    rw (op-x (s .args .g) (c .before .before .before .before .before .before .before .before .before .before .if1 .taken)) (flip-holds _ _ _ _ _ _ _ _ _ (c .before .before .before .before .before .before .absorb-x .ensures) (s .pre .sound .terms-are))
 
 absorb-cnot-requires : tie.Need-absorb-cnot-requires
 unfolding entered
 absorb-cnot-requires c κs =
-    let s = (c .before .before .before .before .before .before .before .before .before) in
-    let e = (c .before .before .before) .if2 .taken in
+    let s = c .before .before .before .before .before .before .before .before .before in
+    let e = c .before .before .before .if2 .taken in
     record {
       rowed = s .pre .sound .rows-are;
       control = s .pre .wired .first-in;
@@ -52,14 +52,14 @@ same-length-6 c = search needs
 
 returns-2 : tie.Need-returns-2
 returns-2 c =
-    let s = (c .before .before .before .before .before .before .before .before .before .before .before .before .before .before .before .before) in
-    rw (op-cnot (s .args .g) ((c .before .before .before .before .before .before .before .before .before .before) .if2 .taken)) (cnot-holds _ _ _ _ _ _ _ _ _ _ ((c .before .before .before .before .before .before) .absorb-cnot .ensures) (s .pre .sound .terms-are))
+    let s = c .before .before .before .before .before .before .before .before .before .before .before .before .before .before .before .before in
+    rw (op-cnot (s .args .g) (c .before .before .before .before .before .before .before .before .before .before .if2 .taken)) (cnot-holds _ _ _ _ _ _ _ _ _ _ (c .before .before .before .before .before .before .absorb-cnot .ensures) (s .pre .sound .terms-are))
 
 absorb-cz-requires : tie.Need-absorb-cz-requires
 unfolding entered
 absorb-cz-requires c κs =
-    let s = (c .before .before .before .before .before .before .before .before .before .before .before) in
-    let e = (c .before .before .before .before) .if3 .taken in (
+    let s = c .before .before .before .before .before .before .before .before .before .before .before in
+    let e = c .before .before .before .before .if3 .taken in (
       record {
         rowed = s .pre .sound .rows-are;
         control = s .pre .wired .first-in;
@@ -83,20 +83,20 @@ same-length-10 c = search needs
 
 returns-3 : tie.Need-returns-3
 returns-3 c =
-    let s = (c .before .before .before .before .before .before .before .before .before .before .before .before .before .before .before .before .before .before .before .before) in
-    rw (op-cz (s .args .g) ((c .before .before .before .before .before .before .before .before .before .before .before .before .before) .if3 .taken)) ((c .before .before .before .before .before .before .before .before) .absorb-cz .ensures)
+    let s = c .before .before .before .before .before .before .before .before .before .before .before .before .before .before .before .before .before .before .before .before in
+    rw (op-cz (s .args .g) (c .before .before .before .before .before .before .before .before .before .before .before .before .before .if3 .taken)) (c .before .before .before .before .before .before .before .before .absorb-cz .ensures)
 
 turn-of-requires : tie.Need-turn-of-requires
 turn-of-requires c κs = search needs
 
 -- what is left are the rotations
-turns : (c : tie.Else3) → (2 ≤ (c .before .before .before .before .before .before .before) .args .g .code) × ((c .before .before .before .before .before .before .before) .args .g .code ≤ 7)
-turns c = (omega (arith, (c .before .before .before .before .before .before .before) .pre .least), omega (arith, (c .before .before .before .before .before .before .before) .pre .most))
+turns : (c : tie.Else3) → (2 ≤ c .before .before .before .before .before .before .before .args .g .code) × (c .before .before .before .before .before .before .before .args .g .code ≤ 7)
+turns c = (omega (arith, c .before .before .before .before .before .before .before .pre .least), omega (arith, c .before .before .before .before .before .before .before .pre .most))
 
 absorb-turn-requires : tie.Need-absorb-turn-requires
 unfolding entered
 absorb-turn-requires c κs =
-    let s = (c .before .before .before .before .before .before .before .before .before .before .before .before) in
+    let s = c .before .before .before .before .before .before .before .before .before .before .before .before in
     let t = turns (c .before .before .before .before .before) in
     let o = op-turn (s .args .g) (t .0) (t .1) in (
       record { rowed = s .pre .sound .rows-are; inside = s .pre .wired .first-in; few = rw o at (s .pre .few) },
@@ -117,9 +117,9 @@ same-length-14 c = search needs
 
 returns-4 : tie.Need-returns-4
 returns-4 c =
-    let s = (c .before .before .before .before .before .before .before .before .before .before .before .before .before .before .before .before .before .before .before .before .before) in
+    let s = c .before .before .before .before .before .before .before .before .before .before .before .before .before .before .before .before .before .before .before .before .before in
     let t = turns (c .before .before .before .before .before .before .before .before .before .before .before .before .before .before) in
-    rw (op-turn (s .args .g) (t .0) (t .1)) (rw ((c .before .before .before .before .before .before .before .before .before .before .before .before .before) .turn-of .ensures) at ((c .before .before .before .before .before .before .before .before) .absorb-turn .ensures))
+    rw (op-turn (s .args .g) (t .0) (t .1)) (rw (c .before .before .before .before .before .before .before .before .before .before .before .before .before .turn-of .ensures) at (c .before .before .before .before .before .before .before .before .absorb-turn .ensures))
 
 pub absorb-spec : {M : Type 1} → statement M
 absorb-spec =

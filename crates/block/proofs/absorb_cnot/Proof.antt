@@ -24,8 +24,8 @@ same-length-3 c = search needs
 returns : tie.Need-returns
 unfolding entered
 returns c =
-    let e = (c .before .before .before .before .before .before .before .before .before .before .before .before .before) .enter-two .ensures in
-    let f = (c .before .before) .fold-cnot .ensures in
+    let e = c .before .before .before .before .before .before .before .before .before .before .before .before .before .enter-two .ensures in
+    let f = c .before .before .fold-cnot .ensures in
     record {
       joined = cross-joined (e .joined) _ _ _ _ _ _ (e .control) (e .target) (e .control-name) (e .target-name) f;
       terms = f .flips .terms ∙ e .terms;

@@ -24,8 +24,8 @@ same-length-4 c = search needs
 
 returns : tie.Need-returns
 returns c =
-    let e = (c .before .before .before .before .before .before .before .before .before .before .before .before .before .before) .enter-two .ensures in
-    cz-holds _ _ _ _ _ _ _ _ _ (e .terms) _ _ _ _ (e .joined) (e .control) (e .target) (e .control-name) (e .target-name) ((c .before .before) .fold-cz .ensures)
+    let e = c .before .before .before .before .before .before .before .before .before .before .before .before .before .before .enter-two .ensures in
+    cz-holds _ _ _ _ _ _ _ _ _ (e .terms) _ _ _ _ (e .joined) (e .control) (e .target) (e .control-name) (e .target-name) (c .before .before .fold-cz .ensures)
 
 pub absorb-cz-spec : {M : Type 1} → statement M
 absorb-cz-spec =

@@ -24,8 +24,8 @@ same-length-4 c = search needs
 
 returns : tie.Need-returns
 returns c =
-    let e = (c .before .before .before .before .before .before .before .before .before .before .before .before .before) .enter .ensures in
-    turn-holds _ _ _ _ _ _ _ _ _ (e .terms) _ _ _ (e .joined) (e .at) (e .name) ((c .before .before) .fold-turn .ensures)
+    let e = c .before .before .before .before .before .before .before .before .before .before .before .before .before .enter .ensures in
+    turn-holds _ _ _ _ _ _ _ _ _ (e .terms) _ _ _ (e .joined) (e .at) (e .name) (c .before .before .fold-turn .ensures)
 
 pub absorb-turn-spec : {M : Type 1} → statement M
 absorb-turn-spec =

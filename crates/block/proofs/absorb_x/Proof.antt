@@ -24,7 +24,7 @@ same-length-3 c = search needs
 returns : tie.Need-returns
 unfolding entered
 returns c =
-    let e = (c .before .before .before .before .before .before .before .before .before) .enter .ensures in
+    let e = c .before .before .before .before .before .before .before .before .before .enter .ensures in
     record { joined = flip-joined (e .joined) _ _ _ (e .at) (e .name) (c .fold-x .ensures); terms = c .fold-x .ensures .terms ∙ e .terms }
 
 pub absorb-x-spec : {M : Type 1} → statement M

@@ -21,7 +21,7 @@ byte true = (refl, omega arith)
 byte false = (refl, omega arith)
 
 returns : tie.Need-returns
-returns c = rw (c .joined .ensures) (byte (eqb (getD ((c .before .before) .args .table .now) ((c .before .before) .args .q .0) 0) 0))
+returns c = rw (c .joined .ensures) (byte (eqb (getD (c .before .before .args .table .now) (c .before .before .args .q .0) 0) 0))
 
 pub count-new-spec : {M : Type 1} → statement M
 count-new-spec = tie.close (tie.spec joined-requires cast-result returns)

@@ -9,13 +9,13 @@ use Rattle.block.proofs.enter_two.Tie as tie
 
 enter-requires : tie.Need-enter-requires
 enter-requires c κs =
-    let s = (c .before .before .before .before .before .before) in
+    let s = c .before .before .before .before .before .before in
     record { rowed = s .pre .rowed; inside = s .pre .control; few = le-trans (join-grows _ _) (s .pre .few) }
 
 enter-requires-2 : tie.Need-enter-requires-2
 enter-requires-2 c κs =
-    let s = (c .before .before .before .before .before .before .before .before .before .before .before .before .before .before .before .before .before .before) in
-    let x = (c .before .before .before .before .before .before .before .before .before .before .before) .enter in
+    let s = c .before .before .before .before .before .before .before .before .before .before .before .before .before .before .before .before .before .before in
+    let x = c .before .before .before .before .before .before .before .before .before .before .before .enter in
     record { rowed = rowed-is (x .ensures .joined); inside = omega (arith, x .kept .1 .1 .0, s .pre .target); few = rw (x .ensures .joined .same) (s .pre .few) }
 
 same-length : tie.Need-same-length
@@ -29,8 +29,8 @@ same-length-3 c = search needs
 
 returns : tie.Need-returns
 returns c =
-    let x = (c .before .before .before .before .before .before .before .before .before .before .before .before .before .before .before .before .before .before .before .before) .enter .ensures in
-    let y = (c .before .before .before .before .before .before .before .before) .enter2 .ensures in
+    let x = c .before .before .before .before .before .before .before .before .before .before .before .before .before .before .before .before .before .before .before .before .enter .ensures in
+    let y = c .before .before .before .before .before .before .before .before .enter2 .ensures in
     record {
       joined = rw (x .joined .same) at (y .joined);
       terms = y .terms ∙ x .terms;

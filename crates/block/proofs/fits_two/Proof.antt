@@ -20,7 +20,7 @@ add-result-2 : tie.Need-add-result-2
 add-result-2 c = omega arith
 
 returns : tie.Need-returns
-returns c = rw ((c .before) .count-new .ensures .0, c .count-new2 .ensures .0)
+returns c = rw (c .before .count-new .ensures .0, c .count-new2 .ensures .0)
 
 pub fits-two-spec : {M : Type 1} → statement M
 fits-two-spec =

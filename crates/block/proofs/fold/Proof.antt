@@ -13,8 +13,8 @@ same-length c = search needs
 
 returns : tie.Need-returns
 returns c = record {
-  turns = record { wires = refl; flips = refl; folded = folded-is _ _ _ _ _ _ ((c .before .before) .add-term .ensures) };
-  more = folded-more _ _ _ _ _ _ ((c .before .before) .add-term .ensures);
+  turns = record { wires = refl; flips = refl; folded = folded-is _ _ _ _ _ _ (c .before .before .add-term .ensures) };
+  more = folded-more _ _ _ _ _ _ (c .before .before .add-term .ensures);
 }
 
 pub fold-spec : {M : Type 1} → statement M

@@ -38,10 +38,10 @@ returns c = record {
     wires = refl;
     flips =
         c .xor .ensures
-        ∙ ap (xor (val ((c .before .before .before .before .before .before .before .before .before .before .before) .args .b .flips))) ((c .before) .kept .ensures ∙ ap₂ (λ (s : Bool) (m : ℕ). cond s m 0) ((c .before .before) .has .ensures) ((c .before .before .before) .single .ensures));
+        ∙ ap (xor (val (c .before .before .before .before .before .before .before .before .before .before .before .args .b .flips))) (c .before .kept .ensures ∙ ap₂ (λ (s : Bool) (m : ℕ). cond s m 0) (c .before .before .has .ensures) (c .before .before .before .single .ensures));
     terms = refl;
   };
-  held = (c .before .before .before .before .before .before) .add .ensures;
+  held = c .before .before .before .before .before .before .add .ensures;
 }
 
 pub fold-cnot-spec : {M : Type 1} → statement M

@@ -31,8 +31,8 @@ fold-requires c κs = search needs
 
 fold-requires-2 : tie.Need-fold-requires-2
 fold-requires-2 c κs =
-    let s = (c .before .before .before .before .before .before .before .before .before .before .before .before .before) in
-    let f = (c .before .before .before) .fold in
+    let s = c .before .before .before .before .before .before .before .before .before .before .before .before .before in
+    let f = c .before .before .before .fold in
     omega (arith, f .ensures .more, room-same (f .last .1 .1 .1 .1 .0) (s .args .room .now) (f .kept .1 .1 .1 .1 .0), s .pre .1)
 
 xor-requires : tie.Need-xor-requires
@@ -40,9 +40,9 @@ xor-requires c κs = search needs
 
 fold-requires-3 : tie.Need-fold-requires-3
 fold-requires-3 c κs =
-    let s = (c .before .before .before .before .before .before .before .before .before .before .before .before .before .before .before .before .before .before) in
-    let f = (c .before .before .before .before .before .before .before .before) .fold in
-    let g = (c .before .before .before .before) .fold2 in
+    let s = c .before .before .before .before .before .before .before .before .before .before .before .before .before .before .before .before .before .before in
+    let f = c .before .before .before .before .before .before .before .before .fold in
+    let g = c .before .before .before .before .fold2 in
     omega (
       arith,
       f .ensures .more,
@@ -57,12 +57,19 @@ same-length c = search needs
 
 returns : tie.Need-returns
 returns c =
-    let a : Bool = (c .before .before .before .before .before .before .before .before .before .before .before .before .before .before) .has .result in
-    let b : Bool = (c .before .before .before .before .before .before .before .before .before .before .before .before .before) .has2 .result in
-    rw ((c .before .before .before .before .before .before .before .before .before .before .before .before .before .before .before .before .before) .get .ensures, (c .before .before .before .before .before .before .before .before .before .before .before .before .before .before .before) .get2 .ensures, (c .before .before .before .before .before .before .before .before .before .before .before .before .before .before) .has .ensures, (c .before .before .before .before .before .before .before .before .before .before .before .before .before) .has2 .ensures) at
-    (cz-turns (val ((c .before .before .before .before .before .before .before .before .before .before .before .before .before .before .before .before .before) .get .result)) (val ((c .before .before .before .before .before .before .before .before .before .before .before .before .before .before .before) .get2 .result)) (val ((c .before .before .before .before) .xor .result)) a b (not (Bool·beq a b)) ((c .before .before .before .before .before .before .before .before .before .before .before .before .before .before .before .before .before .before .before .before .before) .args .b) ((c .before .before .before .before .before .before .before .before .before .before .before) .fold .result) ((c .before .before .before .before .before .before .before) .fold2 .result) ((c .before .before) .fold3 .result)
-    ((c .before .before .before .before .before .before .before .before .before .before .before .before .before .before .before .before .before .before .before .before .before) .args .room .now) ((c .before .before .before .before .before .before .before .before .before .before .before) .fold .last .1 .1 .1 .1 .0) ((c .before .before .before .before .before .before .before) .fold2 .last .1 .1 .1 .1 .0) ((c .before .before) .fold3 .last .1 .1 .1 .1 .0)
-    ((c .before .before .before .before .before .before .before .before .before .before .before) .fold .ensures .turns) ((c .before .before .before .before .before .before .before) .fold2 .ensures .turns) ((c .before .before) .fold3 .ensures .turns) ((c .before .before .before .before) .xor .ensures) (differ-is a b))
+    let third = c .before .before in
+    let sum = third .before .before in
+    let second = sum .before .before .before in
+    let first = second .before .before .before .before in
+    let t = first .before .before in
+    let s = t .before in
+    let y = s .before in
+    let x = y .before .before in
+    let a : Bool = s .has .result in
+    let b : Bool = t .has2 .result in
+    rw (x .get .ensures, y .get2 .ensures, s .has .ensures, t .has2 .ensures) at
+    (cz-turns (val (x .get .result)) (val (y .get2 .result)) (val (sum .xor .result)) a b (not (Bool·beq a b)) _ _ _ _ _ _ _ _
+    (first .fold .ensures .turns) (second .fold2 .ensures .turns) (third .fold3 .ensures .turns) (sum .xor .ensures) (differ-is a b))
 
 pub fold-cz-spec : {M : Type 1} → statement M
 fold-cz-spec =

@@ -15,7 +15,7 @@ xor-requires c κs = search needs
 returns : tie.Need-returns
 returns c = record {
   wires = refl;
-  flips = c .xor .ensures ∙ ap (xor (val ((c .before .before) .args .b .flips))) ((c .before) .single .ensures);
+  flips = c .xor .ensures ∙ ap (xor (val (c .before .before .args .b .flips))) (c .before .single .ensures);
   terms = refl;
 }
 

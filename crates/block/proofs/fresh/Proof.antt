@@ -22,7 +22,7 @@ add-next c = omega (arith, few (c .before .before .before))
 
 enter-requires : tie.Need-enter-requires
 enter-requires c κs =
-    let s = (c .before .before .before .before .before .before) in
+    let s = c .before .before .before .before .before .before in
     record { joins = s .pre .0 .rowed .joins; few = few s; inside = s .pre .0 .inside; new = s .pre .1 }
 
 cast-put : tie.Need-cast-put
@@ -45,10 +45,10 @@ same-length-3 c = search needs
 
 returns : tie.Need-returns
 returns c =
-    let s = (c .before .before .before .before .before .before .before .before .before .before .before .before .before .before .before .before) in
-    let e = (c .before .before .before .before .before .before .before .before .before) .enter .ensures in
+    let s = c .before .before .before .before .before .before .before .before .before .before .before .before .before .before .before .before in
+    let e = c .before .before .before .before .before .before .before .before .before .enter .ensures in
     record {
-      joined = enter-new (s .pre .0 .rowed) _ _ _ _ _ (s .pre .1) (few s) e ((c .before .before) .put .ensures ∙ ap (λ (v : ℕ). set (rowsOf (s .args .rows .now)) (s .args .b .wires) v) ((c .before .before .before) .single .ensures)) (add-one _) refl;
+      joined = enter-new (s .pre .0 .rowed) _ _ _ _ _ (s .pre .1) (few s) e (c .before .before .put .ensures ∙ ap (λ (v : ℕ). set (rowsOf (s .args .rows .now)) (s .args .b .wires) v) (c .before .before .before .single .ensures)) (add-one _) refl;
       terms = refl;
       more = omega arith;
       kept = λ i l. ap (λ (ns : List ℕ). getD ns i 0) (e .name) ∙ getD-set-other (s .args .names .now) (s .args .b .wires) i (s .args .q .0) 0 (λ (z : i ≡ s .args .b .wires). omega arith);

@@ -11,18 +11,18 @@ fits-one-requires : tie.Need-fits-one-requires
 fits-one-requires c κs = search needs
 
 returns : tie.Need-returns
-returns c = taken-wide _ _ _ _ _ _ (sym ((c .before) .fits-one .ensures) ∙ not-true _ (c .if1 .taken))
+returns c = taken-wide _ _ _ _ _ _ (sym (c .before .fits-one .ensures) ∙ not-true _ (c .if1 .taken))
 
 returns-2 : tie.Need-returns-2
-returns-2 c = taken-spare _ _ _ _ _ _ (sym ((c .before .before .before) .fits-one .ensures) ∙ not-false _ ((c .before .before) .if1 .left)) (c .if2 .taken)
+returns-2 c = taken-spare _ _ _ _ _ _ (sym (c .before .before .before .fits-one .ensures) ∙ not-false _ (c .before .before .if1 .left)) (c .if2 .taken)
 
 parity-of-requires : tie.Need-parity-of-requires
 parity-of-requires c κs =
-    let s = (c .before .before .before .before .before .before .before) in
+    let s = c .before .before .before .before .before .before .before in
     record {
       inside = s .pre .inside;
       old = s .pre .held;
-      fresh = λ e. lt-of-lt-of-le (fits-fresh _ _ _ (sym ((c .before .before .before) .fits-one .ensures) ∙ not-false _ ((c .before .before) .if1 .left)) e) (s .pre .low);
+      fresh = λ e. lt-of-lt-of-le (fits-fresh _ _ _ (sym (c .before .before .before .fits-one .ensures) ∙ not-false _ (c .before .before .if1 .left)) e) (s .pre .low);
     }
 
 find-requires : tie.Need-find-requires
@@ -30,7 +30,7 @@ find-requires c κs = search needs
 
 returns-3 : tie.Need-returns-3
 returns-3 c =
-    taken-full _ _ _ _ _ _ (sym ((c .before .before .before .before .before .before) .fits-one .ensures) ∙ not-false _ ((c .before .before .before .before .before) .if1 .left)) ((c .before .before .before) .if2 .left) ((c .before .before .before .before .before .before .before .before .before .before) .pre .terms) _ _ ((c .before) .find .ensures) ((c .before .before) .parity-of .ensures)
+    taken-full _ _ _ _ _ _ (sym (c .before .before .before .before .before .before .fits-one .ensures) ∙ not-false _ (c .before .before .before .before .before .if1 .left)) (c .before .before .before .if2 .left) (c .before .before .before .before .before .before .before .before .before .before .pre .terms) _ _ (c .before .find .ensures) (c .before .before .parity-of .ensures)
 
 pub takes-turn-spec : {M : Type 1} → statement M
 takes-turn-spec =

@@ -1,8 +1,7 @@
 -- `join::enter` meets its contract.
-use mathlib.Core.Path.{refl}
 use native.Mathlib.Numerals.{add-one}
 use borrow.Author.Needs.{needs}
-use Rattle.join.proofs.Joining.{enter-joins}
+use Rattle.join.proofs.Joining.{enters-is}
 use Rattle.join.proofs.enter.Statement.{statement}
 use Rattle.join.proofs.enter.Tie as tie
 
@@ -31,8 +30,7 @@ same-length-2 : tie.Need-same-length-2
 same-length-2 c = search needs
 
 returns : tie.Need-returns
-returns c =
-    rw (add-one (c .before .args .n)) (record { joins = enter-joins _ _ _ _ (c .before .pre); entry = refl; name = refl })
+returns c = enters-is _ _ _ _ _ (c .before .pre) (add-one (c .before .args .n))
 
 pub enter-spec : {M : Type 1} → statement M
 enter-spec =

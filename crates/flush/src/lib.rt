@@ -1,0 +1,130 @@
+// A closed block: written again at its own place in the output, and kept there if that is cheaper; else the place gets the block's own gates.
+use block::Block;
+use budget::Budget;
+use budget::Pushed;
+use rules::GATE_WIDTH;
+ghost use mathlib.Core.Path.{_≡_};
+ghost use mathlib.Core.List.{List};
+ghost use lib.IntN.{ℤ};
+ghost use lib.ListN.{length};
+ghost use Rattle.budget.specs.View.{view};
+ghost use Rattle.flush.specs.Choice.{keeps, Tried, Exact, Settles, Writable, Lent, Flushable, Flushes};
+
+// How many gates the place now has, and whether they are new.
+pub struct Flushed {
+    pub gates: usize,
+    pub replaced: bool,
+}
+
+// The total isn't higher, and the pair of counts is smaller, CNOT and CZ first.
+fn cheaper(b: Budget) -> bool
+    ensures { λ r. ⌜ r ≡ keeps (view b) ⌝ }
+{
+    (b.all <= b.maxall) & ((b.two < b.maxtwo) | ((b.two == b.maxtwo) & (b.all < b.maxall)))
+}
+
+fn copy(run: &[i32], place: &mut [i32])
+    requires { ⌜ length (now place) ≡ length (now run) ⌝ }
+    ensures { λ r. ⌜ now (place .exit) ≡ now (run .entry) ⌝ }
+{
+    for i in 0..run.len() {
+        place[i] = run[i];
+    }
+}
+
+// Keeps what was written at the place, or copies the run there.
+fn settle(run: &[i32], place: &mut [i32], p: Pushed) -> Flushed
+    requires { ⌜ length (now place) ≡ length (now run) ⌝ }
+    requires { ⌜ Exact (now run) ⌝ }
+    ensures { λ r. ⌜ ((before : List ℤ) → Tried (now (run .entry)) before (now (place .entry)) p → Settles (now (run .entry)) (now (place .exit)) r) ⌝ }
+{
+    let spent = p.budget;
+    let replaced = p.within & cheaper(spent);
+    if replaced {
+        Flushed {
+            gates: spent.all,
+            replaced: true,
+        }
+    } else {
+        copy(run, place);
+        Flushed {
+            gates: run.len() / GATE_WIDTH,
+            replaced: false,
+        }
+    }
+}
+
+// The block written again at its place, within the run's own counts. Of the rooms, only the parts of the block's wires are lent.
+fn attempt(
+    run: &[i32],
+    place: &mut [i32],
+    block: Block,
+    names: &[u32],
+    rows: &[u64],
+    room: &mut [u64],
+    nodes: &mut [u64],
+    held: &mut [u64],
+    right: &mut [u64],
+    steps: &mut [u32],
+) -> Pushed
+    requires { ⌜ Writable (now run) block (now names) (now rows) (now room) ⌝ }
+    requires { ⌜ Lent (now run) (now place) (now nodes) (now held) (now right) (now steps) ⌝ }
+    ensures { λ r. ⌜ Tried (now (run .entry)) (now (place .entry)) (now (place .exit)) r ⌝ }
+{
+    let n = block.wires as usize;
+    let end = 2 * n;
+    let b = Budget {
+        two: 0,
+        all: 0,
+        maxtwo: gate::count_two(run),
+        maxall: run.len() / GATE_WIDTH,
+    };
+    synth::synthesize(
+        block,
+        &names[..n],
+        &rows[..end],
+        room,
+        nodes,
+        &mut held[..end],
+        &mut right[..end],
+        steps,
+        place,
+        b,
+    )
+}
+
+// A closed block: `run` is its gates, `place` its own place in the output, as long as the run. Its wires leave the join table.
+pub fn flush(
+    run: &[i32],
+    place: &mut [i32],
+    block: Block,
+    table: &mut [u32],
+    names: &[u32],
+    rows: &[u64],
+    room: &mut [u64],
+    nodes: &mut [u64],
+    held: &mut [u64],
+    right: &mut [u64],
+    steps: &mut [u32],
+) -> Flushed
+    requires { ⌜ Flushable (now run) block (now table) (now names) (now rows) (now room) ⌝ }
+    requires { ⌜ Lent (now run) (now place) (now nodes) (now held) (now right) (now steps) ⌝ }
+    ensures { λ r. ⌜ Flushes (now (run .entry)) (now (place .exit)) (now (table .exit)) (now (names .entry)) r ⌝ }
+{
+    let n = block.wires;
+    let p = attempt(
+        run,
+        &mut *place,
+        block,
+        names,
+        rows,
+        room,
+        nodes,
+        held,
+        right,
+        steps,
+    );
+    let r = settle(run, place, p);
+    join::leave(table, names, n);
+    r
+}

@@ -1,0 +1,3 @@
+-- The definitions that the crate's contracts cite, beside those of `rules` and the crates that it calls.
+pub mod Flips
+pub mod Resynthesis
