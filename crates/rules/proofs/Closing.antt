@@ -15,7 +15,7 @@ use Rattle.rules.specs.Bit.{_⊕_, bit, sum, dot, xor}
 use Rattle.rules.specs.Meaning.{change, moved, added, wires, phases}
 use Rattle.rules.specs.Walk.{Step, cn, rot}
 use Rattle.rules.specs.Close.{addTo, swap, firstWith, units, times, Pairs, clearBoth, andThen, invertFrom, inverse, Adds, note, clear, diagonal, onward, reduceFrom, eqRows, needed, closing}
-use Rattle.rules.proofs.Bits.{split, same, eqb-self, eqb-sym, bit-xor, sum-ext, sum-at, dot-xor, dot-unit, dot-zero, ⊕-false, ⊕-assoc, ⊕-self, ⊕-left}
+use Rattle.rules.proofs.Bits.{split, and-left, and-right, same, eqb-self, eqb-sym, bit-xor, sum-ext, sum-at, dot-xor, dot-unit, dot-zero, ⊕-false, ⊕-assoc, ⊕-self, ⊕-left}
 use Rattle.rules.proofs.Walking.{ops, Within}
 
 -- row i
@@ -416,10 +416,7 @@ unfolding eqRows
 eq-rows [] [] e = refl
 eq-rows [] (y ∷ ys) e = absurd (false≢true e)
 eq-rows (x ∷ xs) [] e = absurd (false≢true e)
-eq-rows (x ∷ xs) (y ∷ ys) e =
-    split (eqb x y)
-    (λ f. ap₂ (λ (h : ℕ) (l : List ℕ). h ∷ l) (eqb-true x y f) (eq-rows xs ys (rw f at e)))
-    (λ f. absurd (false≢true (rw f at e)))
+eq-rows (x ∷ xs) (y ∷ ys) e = ap₂ (λ (h : ℕ) (l : List ℕ). h ∷ l) (eqb-true x y (and-left (eqb x y) _ e)) (eq-rows xs ys (and-right (eqb x y) _ e))
 
 pub at-map : (f : ℕ → ℕ) (l : List ℕ) (i : ℕ) → i < length l → at (map f l) i ≡ f (at l i)
 at-map f [] i h = absurd (not-suc-le-zero h)
