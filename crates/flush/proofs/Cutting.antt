@@ -1,34 +1,32 @@
 -- The parts of the rooms that are the block's wires' hold the same block; and what is known of a run's block.
-use mathlib.Core.Path.{_≡_, refl, sym, ap, ap₂, _∙_, subst}
-use mathlib.Core.Bool.{Bool, true, false, cond}
+use mathlib.Core.Path.{_≡_, refl, sym, ap, _∙_, subst}
 use mathlib.Core.List.{List, [], _∷_, map}
-use Prim.Native.Nat.{ℕ, zero, suc, _+_, _-_, _*_, _/_, _^_, _≤_, _<_}
+use Prim.Native.Nat.{ℕ, zero, suc, _+_, _*_, _^_, _≤_, _<_}
 use native.Mathlib.Nat.{le-refl}
 use native.Mathlib.Omega.{arith}
 use lib.IntN.{ℤ}
 use lib.ListN.{length, getD, take}
 use lib.Seq.{take-nil, getD-take, length-take-le}
-use Rattle.rules.specs.Limits.{width, maxColumns, maxWires}
+use Rattle.rules.specs.Limits.{maxColumns}
 use Rattle.rules.specs.Gate.{Gate}
 use Rattle.rules.specs.Numbers.{gatesOf}
 use Rattle.rules.specs.Meaning.{op}
 use Rattle.rules.specs.Counts.{isTwo, twos}
-use Rattle.rules.specs.Fold.{Row, Block, empty, fold}
-use Rattle.rules.specs.Budget.{Budget, budgetOf}
+use Rattle.rules.specs.Fold.{Row, Block, empty}
+use Rattle.rules.specs.Budget.{budgetOf}
 use Rattle.rules.specs.Synth.{blockOf}
 use Rattle.rules.proofs.Bits.{split, same}
 use Rattle.rules.proofs.Bounds.{RowsBelow, TermsBelow, InBounds, bounds-fold}
 use Rattle.rules.proofs.Reading.{gates-length}
 use Rattle.emit.specs.Emitted.{Ready}
 use Rattle.parity.specs.View.{val}
-use Rattle.terms.specs.Terms.{termsOf}
 use Rattle.rows.specs.Rows.{byTwo, row, rowsOf}
 use Rattle.rows.proofs.Room.{row-count}
 use Rattle.block.specs.declared.Block as State
-use Rattle.block.specs.View.{rowsFrom, rowAt, rowsAt, termsAt, blockAt, Holds}
+use Rattle.block.specs.View.{rowsFrom, rowAt, rowsAt, termsAt, blockAt}
 use Rattle.block.proofs.Rowing.{row-eq, rows-length, rows-ext}
 use Rattle.block.proofs.Using.{holds-same}
-use Rattle.synth.specs.Resynthesis.{Walkable, Rooms}
+use Rattle.synth.specs.Resynthesis.{Rooms}
 use Rattle.flush.specs.Choice.{Writable, Lent, Flushable}
 
 -- ---- the first n rows of a room

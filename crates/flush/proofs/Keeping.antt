@@ -1,7 +1,7 @@
 -- The keep test decides as document 01's rule does.
-use mathlib.Core.Path.{_≡_, refl, sym, ap, _∙_, subst}
+use mathlib.Core.Path.{_≡_, refl, sym, ap, _∙_}
 use mathlib.Core.Logic.{_⊎_, inl, inr}
-use mathlib.Core.Bool.{Bool, true, false, _&&_, cond, false≢true, true≢false}
+use mathlib.Core.Bool.{true, false, _&&_, false≢true}
 use mathlib.Core.List.{List, [], _∷_, _++_}
 use mathlib.Core.Option.{Option, none, some}
 use Prim.Native.Nat.{ℕ, _+_, _*_, _≤_, _<_}
@@ -20,11 +20,9 @@ use Rattle.rules.specs.Scan.{Writer, chosen, replaces}
 use Rattle.rules.proofs.Bits.{split, and-left, and-right}
 use Rattle.rules.proofs.Passing.{cheaper-is}
 use Rattle.rules.proofs.Reading.{length-numbers}
-use Rattle.emit.specs.Emitted.{Holds, Passes, dear, long, Emits}
+use Rattle.emit.specs.Emitted.{Holds, Passes, dear, long}
 use Rattle.budget.specs.declared.Pushed.{Pushed}
 use Rattle.budget.specs.View.{view}
-use Rattle.synth.specs.Resynthesis.{Synthesizes}
-use Rattle.flush.specs.declared.Flushed.{Flushed}
 use Rattle.flush.specs.Choice.{keeps, Tried, Exact, Settles}
 
 -- what passes a ceiling of the old gates is not cheaper than they

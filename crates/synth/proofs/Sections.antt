@@ -1,9 +1,9 @@
 -- A block by its rooms: its names, its parities and its constants; and its resynthesis in three parts, which may stop after each.
 use mathlib.Core.Path.{_≡_, refl, sym, ap, ap₂, _∙_, subst}
-use mathlib.Core.Bool.{Bool, true, false, cond, false≢true, true≢false}
+use mathlib.Core.Bool.{Bool, true, false, true≢false}
 use mathlib.Core.List.{List, [], _∷_, _++_, map, append-assoc}
 use mathlib.Core.Option.{Option, none, some, Option·none-ne-some, Option·some-injective}
-use Prim.Native.Nat.{ℕ, zero, suc, _+_, _-_, _*_, _^_, _≤_, _<_, min}
+use Prim.Native.Nat.{ℕ, zero, suc, _+_, _-_, _*_, _^_, _≤_}
 use native.Mathlib.Omega.{arith}
 use lib.IntN.{ℤ}
 use lib.ListN.{length, getD, take, drop, length-take}
@@ -26,7 +26,7 @@ use Rattle.emit.proofs.Appending.{emits-then, emits-stop}
 use Rattle.closing.specs.Emission.{Closes}
 use Rattle.block.specs.View.{rowsFrom, rowAt}
 use Rattle.block.proofs.Rowing.{rows-length}
-use Rattle.synth.specs.Flips.{flipIf, flipsFrom}
+use Rattle.synth.specs.Flips.{flipsFrom}
 use Rattle.synth.specs.Resynthesis.{Synthesizes}
 
 -- ---- the rows

@@ -75,7 +75,8 @@ fn emit_walk(
     requires { ⌜ Ready (now out) (view b) ⌝ }
     ensures { λ r. ⌜ Synthesized (now (names .entry)) (phaseWalk (block .wires) (termsAt block (now (room .entry)))) (now (out .entry)) (view b) (units (block .wires) 0) (now (out .exit)) (view (r .budget)) (rowsOf (now (held .exit))) (r .within) ⌝ }
 {
-    let entering = terms::compact(&mut *room, block.terms);
+    let count = block.terms;
+    let entering = terms::compact(&mut *room, count);
     let end = 3 * entering;
     rows::set_units(&mut *held);
     walk::gray_synth(&mut room[..end], block.wires, nodes, held, names, out, b)

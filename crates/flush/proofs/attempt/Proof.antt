@@ -1,10 +1,9 @@
 -- `flush::attempt` meets its contract: the parts lent hold the run's block, and the budget is the run's.
-use mathlib.Core.Path.{_≡_, refl, sym, _∙_}
-use Prim.Native.Nat.{ℕ, _*_, _/_, _≤_}
+use mathlib.Core.Path.{_≡_, sym, _∙_}
+use Prim.Native.Nat.{_*_}
 use native.Mathlib.Omega.{arith}
 use borrow.Author.Needs.{needs}
 use lib.ListN.{length, take}
-use Rattle.rules.specs.Limits.{width}
 use Rattle.rules.specs.Numbers.{gatesOf}
 use Rattle.rules.specs.Counts.{twos}
 use Rattle.rules.specs.Synth.{blockOf}

@@ -1,5 +1,5 @@
 -- `flush::flush` meets its contract: written again, settled, and the wires leave.
-use mathlib.Core.Path.{_≡_, _∙_}
+use mathlib.Core.Path.{_∙_}
 use borrow.Author.Needs.{needs}
 use Rattle.flush.proofs.Cutting.{writable}
 use Rattle.flush.proofs.flush.Statement.{statement}

@@ -1,8 +1,6 @@
 -- `flush::settle` meets its contract: what the keep test says is what document 01 chooses.
-use mathlib.Core.Path.{_≡_, refl, sym, ap, _∙_}
-use mathlib.Core.Bool.{Bool, true, false, _&&_}
-use Prim.Native.Nat.{_/_}
-use native.Mathlib.Omega.{arith}
+use mathlib.Core.Path.{_≡_, sym, ap, _∙_}
+use mathlib.Core.Bool.{Bool, _&&_}
 use borrow.Author.Needs.{needs}
 use Rattle.rules.proofs.Reading.{gates-length}
 use Rattle.budget.specs.View.{view}

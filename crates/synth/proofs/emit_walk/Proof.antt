@@ -1,12 +1,12 @@
 -- `synth::emit_walk` meets its contract: the terms other than 0 stand first, and the walk is over them alone.
-use mathlib.Core.Path.{_≡_, refl, sym, ap, ap₂, _∙_, subst}
+use mathlib.Core.Path.{_≡_, sym, ap, ap₂, _∙_, subst}
 use mathlib.Core.List.{List}
-use Prim.Native.Nat.{ℕ, _*_, _/_, _≤_}
+use Prim.Native.Nat.{ℕ, _*_, _≤_}
 use native.Mathlib.Omega.{arith}
 use borrow.Author.Needs.{needs}
 use lib.ListN.{length, take}
 use lib.Seq.{length-take-le}
-use Rattle.rules.specs.Walk.{Step, phaseWalk, held}
+use Rattle.rules.specs.Walk.{Step, held}
 use Rattle.rules.specs.Close.{units}
 use Rattle.rules.specs.Synth.{emit}
 use Rattle.budget.specs.View.{view}
