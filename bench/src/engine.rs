@@ -184,7 +184,10 @@ fn main() {
         let mut random = Random(59 + n as u64);
         walk("gray_synth, 512 terms", n, (0..20).map(|_| terms(&mut random, n, 512, 0)).collect());
     }
-    // one rotation on each wire: every set below the first is of one term
+    // few terms on many wires: soon nearly every set is of one term
+    let mut random = Random(67);
+    walk("gray_synth, 16 terms, nearly all sets of one", 128, (0..100).map(|_| terms(&mut random, 128, 16, 0)).collect());
+    // one rotation on each wire: a set of one term splits off at every turn, and the rest never agrees
     let mut random = Random(71);
     walk("gray_synth, one term a wire", 128, (0..60).map(|_| (0..128).map(|i| (1u128 << i, Angle(1 + random.below(7) as i32))).collect()).collect());
 }
