@@ -23,7 +23,8 @@ fn cheaper(b: Budget) -> bool
     (b.all <= b.maxall) & ((b.two < b.maxtwo) | ((b.two == b.maxtwo) & (b.all < b.maxall)))
 }
 
-fn copy(run: &[i32], place: &mut [i32])
+// The run at the place.
+pub fn copy(run: &[i32], place: &mut [i32])
     requires { ⌜ length (now place) ≡ length (now run) ⌝ }
     ensures { λ r. ⌜ now (place .exit) ≡ now (run .entry) ⌝ }
 {

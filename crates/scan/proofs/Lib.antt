@@ -1,0 +1,3 @@
+pub mod Folding
+pub mod Pieces
+pub mod Writing

@@ -1,0 +1,140 @@
+-- What the functions of the scan ask and promise.
+use mathlib.Core.Path.{_≡_}
+use mathlib.Core.Bool.{Bool, false, cond}
+use mathlib.Core.List.{List, [], _∷_, _++_}
+use Prim.Native.Nat.{ℕ, zero, suc, _+_, _-_, _*_, _/_, _≤_, _<_}
+use lib.IntN.{ℤ}
+use lib.ListN.{length, getD, take}
+use Rattle.rules.specs.Limits.{width, maxGates, maxWires, maxColumns, termEntries, stepWidth, stepEntries}
+use Rattle.rules.specs.Gate.{Gate}
+use Rattle.rules.specs.Numbers.{gateAt, gatesFrom, gatesOf, numbers, numbersOf}
+use Rattle.rules.specs.Meaning.{op}
+use Rattle.rules.specs.Refusal.{faultAt}
+use Rattle.rules.specs.Synth.{blockOf, resynthesis}
+use Rattle.rules.specs.Scan.{takes, cut, chosen, replaces, Result, finish}
+use Rattle.terms.specs.Terms.{termsOf}
+use Rattle.rows.specs.Rows.{rowsOf}
+use Rattle.block.specs.View.{Holds}
+use Rattle.block.specs.declared.Block.{Block}
+use Rattle.flush.specs.declared.Flushed.{Flushed}
+use Rattle.scan.specs.declared.Run.{Run}
+use Rattle.scan.specs.declared.Tally.{Tally}
+
+-- how many gates a list has
+abbrev pub gatesIn : List ℤ → ℕ
+gatesIn l = length l / width
+
+-- ---- what is asked of the list and lent
+
+-- what the check of a list says, on w wires and some classical bits
+pub record Sound (l : List ℤ) (w : ℕ) : Type 0 where
+  pub bits : ℕ
+  pub exact : numbersOf (gatesOf l) ≡ l
+  pub few : gatesIn l ≤ maxGates
+  pub wires : w ≤ maxWires
+  pub each : (i : ℕ) → i < gatesIn l → faultAt l w bits i ≡ 0
+
+-- no wire has joined, and there is room for three terms a gate
+pub record Clear (l : List ℤ) (table room : List ℕ) : Type 0 where
+  pub clear : (q : ℕ) → getD table q 0 ≡ 0
+  pub terms : termEntries (gatesIn l) ≤ length (termsOf room)
+
+-- there is room for the rows and their names
+pub record Wide (names rows : List ℕ) : Type 0 where
+  pub named : maxColumns ≤ length names
+  pub rowed : maxColumns ≤ length (rowsOf rows)
+
+-- 129 nodes, two matrices, and steps for the list's gates
+pub record Spared (l : List ℤ) (nodes from spare steps : List ℕ) : Type 0 where
+  pub deep : 129 * 5 ≤ length nodes
+  pub held : maxColumns ≤ length (rowsOf from)
+  pub right : maxColumns ≤ length (rowsOf spare)
+  pub long : stepWidth * stepEntries (gatesIn l) ≤ length steps
+
+-- ---- a run of gates
+
+-- the gates from place i to place j
+abbrev pub run : List ℤ → ℕ → ℕ → List Gate
+run l i j = gatesFrom l (j - i) i
+
+-- the gates from place i on
+abbrev pub rest : List ℤ → ℕ → List Gate
+rest l i = run l i (gatesIn l)
+
+-- the block took the gates up to the run's end, and can't take the next
+pub record Stops (q t : ℕ) (l : List ℤ) (i : ℕ) (r : Run) (table names rows room : List ℕ) : Type 0 where
+  pub onward : i ≤ r .end
+  pub inside : r .end ≤ gatesIn l
+  pub holds : Holds (blockOf (run l i (r .end))) (r .block) table names rows room
+  pub cuts : cut q t [] (rest l i) ≡ cut q t (run l i (r .end)) (rest l (r .end))
+  pub full : r .end < gatesIn l → takes q t (op (gateAt l (r .end))) (blockOf (run l i (r .end))) ≡ false
+
+-- ---- a piece is written behind the m gates that are there
+
+-- the output's first m gates
+abbrev pub made : List ℤ → ℕ → List ℤ
+made out m = take (width * m) out
+
+-- the run lies in the list, and its place behind the m gates in the output; state and rooms hold its block
+pub record Closable (l : List ℤ) (i j : ℕ) (b : Block) (out : List ℤ) (m : ℕ) (table names rows room : List ℕ) : Type 0 where
+  pub sound : Sound l (length table)
+  pub onward : i ≤ j
+  pub inside : j ≤ gatesIn l
+  pub behind : m ≤ i
+  pub fits : length out ≡ length l
+  pub holds : Holds (blockOf (run l i j)) b table names rows room
+
+-- the chosen gates follow, and no wire is joined any more
+pub record Closes (l : List ℤ) (i j : ℕ) (out : List ℤ) (m : ℕ) (out′ : List ℤ) (table : List ℕ) (f : Flushed) : Type 0 where
+  pub text : made out′ (m + f .gates) ≡ made out m ++ numbersOf (chosen resynthesis (run l i j))
+  pub gates : f .gates ≡ length (chosen resynthesis (run l i j))
+  pub replaced : f .replaced ≡ replaces resynthesis (run l i j)
+  pub clear : (q : ℕ) → getD table q 0 ≡ 0
+
+pub record Copyable (l : List ℤ) (i : ℕ) (out : List ℤ) (m : ℕ) : Type 0 where
+  pub exact : numbersOf (gatesOf l) ≡ l
+  pub inside : i < gatesIn l
+  pub behind : m ≤ i
+  pub fits : length out ≡ length l
+
+-- ---- the loop
+
+-- what the scan makes of the gates from place i on
+abbrev pub onward : ℕ → ℕ → List ℤ → ℕ → Result
+onward q t l i = finish resynthesis (cut q t [] (rest l i))
+
+-- no count passes the limit of gates, so that none overflows
+pub record Low (s : Tally) : Type 0 where
+  pub at : s .at ≤ maxGates
+  pub gates : s .gates ≤ maxGates
+  pub blocks : s .blocks ≤ maxGates
+  pub replaced : s .replaced ≤ maxGates
+
+-- the gates so far stand in the output, and with what is made of the rest they are what is made of the list
+pub record Stands (q t : ℕ) (l : List ℤ) (s : Tally) (out : List ℤ) : Type 0 where
+  pub inside : s .at ≤ gatesIn l
+  pub behind : s .gates ≤ s .at
+  pub few : s .blocks ≤ s .at
+  pub fewer : s .replaced ≤ s .at
+  pub so-far : List Gate
+  pub text : made out (s .gates) ≡ numbersOf so-far
+  pub size : length so-far ≡ s .gates
+  pub gates : so-far ++ onward q t l (s .at) .gates ≡ onward q t l 0 .gates
+  pub blocks : s .blocks + onward q t l (s .at) .blocks ≡ onward q t l 0 .blocks
+  pub replaced : s .replaced + onward q t l (s .at) .replaced ≡ onward q t l 0 .replaced
+
+-- ---- the whole
+
+pub record Scannable (q : ℕ) (l out : List ℤ) (table room steps : List ℕ) : Type 0 where
+  pub capped : q ≤ maxColumns
+  pub sound : Sound l (length table)
+  pub clear : Clear l table room
+  pub fits : length out ≡ length l
+  pub long : stepWidth * stepEntries (gatesIn l) ≤ length steps
+
+-- the output begins with what document 01's scan makes of the list, and the counts are its own
+pub record Scans (q t : ℕ) (l out : List ℤ) (s : Tally) : Type 0 where
+  pub text : made out (s .gates) ≡ numbersOf (finish resynthesis (cut q t [] (gatesOf l)) .gates)
+  pub gates : s .gates ≡ length (finish resynthesis (cut q t [] (gatesOf l)) .gates)
+  pub blocks : s .blocks ≡ finish resynthesis (cut q t [] (gatesOf l)) .blocks
+  pub replaced : s .replaced ≡ finish resynthesis (cut q t [] (gatesOf l)) .replaced
