@@ -1,0 +1,90 @@
+-- What the entry point promises, for every list, any numbers of wires and bits, any two caps and any three rooms.
+use mathlib.Core.Path.{_≡_}
+use mathlib.Core.List.{List, _++_}
+use Prim.Native.Nat.{ℕ, _-_, _*_}
+use lib.IntN.{ℤ, pos}
+use lib.ListN.{length, take, replicate}
+use Rattle.rules.specs.Limits.{width, termWidth, stepWidth, termEntries, stepEntries}
+use Rattle.rules.specs.Gate.{Gate}
+use Rattle.rules.specs.Numbers.{gatesOf, numbersOf}
+use Rattle.rules.specs.Refusal.{accepted, verdict}
+use Rattle.rules.specs.Stretch.{Stretchwise, AlikeGates}
+use Rattle.rules.specs.Counts.{Thrifty}
+use Rattle.rules.specs.Synth.{resynthesis}
+use Rattle.rules.specs.Scan.{Result}
+use Rattle.rules.specs.Promise.{Exactly}
+use Rattle.rules.specs.Pass as Paper
+use Rattle.scan.specs.Scanning.{Sound, gatesIn}
+use Rattle.cnot_min.specs.declared.Counts.{Counts}
+use Rattle.cnot_min.specs.declared.Answer.{Answer}
+use Rattle.cnot_min.specs.declared.Answer.the-variants.{Refused, Done}
+
+-- ---- the answer, in document 01's words
+
+-- the eight counts, in their order
+abbrev pub counted : Counts → Paper.Counts
+counted c = record {
+  gatesIn = c .gatesin;
+  gatesOut = c .gatesout;
+  twosIn = c .twosin;
+  twosOut = c .twosout;
+  tIn = c .tin;
+  tOut = c .tout;
+  blocks = c .blocks;
+  replaced = c .replaced;
+}
+
+-- a refusal's number and place, or the eight counts
+abbrev pub told : Answer → Paper.Answer
+told (Refused r) = Paper.refusal (record { number = r .number; place = r .place })
+told (Done c) = Paper.done (counted c)
+
+-- ---- the promise
+
+-- the result that the counts and the output show: as many gates as they say, read from the output's beginning
+abbrev pub shown : Paper.Counts → List ℤ → Result
+shown c out = record { gates = gatesOf (take (width * c .gatesOut) out); blocks = c .blocks; replaced = c .replaced }
+
+-- demands 1, 2 and 3
+pub record Minimizes (l : List ℤ) (wires bits qcap tcap : ℕ) (out : List ℤ) (terms steps : List ℕ) (r : Answer) (out′ : List ℤ) (terms′ steps′ : List ℕ) : Type 0 where
+  -- refused exactly when document 01's table says, with its number and place; else the eight counts of document 01's pass.
+  -- Wrong: always refusing; a count that is invented
+  pub answer : told r ≡ Paper.after l wires bits qcap tcap out terms steps .answer
+  -- refused: as it was. Done: the pass's gates, 0 up to the list's length, the rest untouched.
+  -- Wrong: copying the list; writing again only the first block; losing the sign before a t; one 0 too few
+  pub out-is : out′ ≡ Paper.after l wires bits qcap tcap out terms steps .out
+  -- refused: as it was. Done: the needed part 0, the rest untouched.
+  -- Wrong: one entry too few cleared; one too many
+  pub terms-are : terms′ ≡ Paper.after l wires bits qcap tcap out terms steps .terms
+  pub steps-are : steps′ ≡ Paper.after l wires bits qcap tcap out terms steps .steps
+  -- the gates outside the fragment are the same, field for field and in order, and each stretch between them takes every setting of
+  -- the wires to the same setting, with phases that differ by one number. Wrong: an x lost; a t for a tdg
+  pub alike : (c : Paper.Counts) → told r ≡ Paper.done c → Stretchwise AlikeGates (shown c out′ .gates) (gatesOf l)
+  -- each stretch is unchanged, or no more gates, no more CNOT and CZ, and fewer of one. Wrong: a dearer writing kept; a gate added
+  pub thrifty : (c : Paper.Counts) → told r ≡ Paper.done c → Stretchwise Thrifty (shown c out′ .gates) (gatesOf l)
+  -- each block is replaced exactly when its resynthesis is cheaper, and the blocks closed and replaced are counted.
+  -- Wrong: a block that ties replaced; a cheaper writing left
+  pub exactly : (c : Paper.Counts) → told r ≡ Paper.done c → Exactly resynthesis qcap tcap (gatesOf l) (shown c out′)
+
+-- ---- an accepted list
+
+-- rooms of exactly the length that the list needs
+pub record Rewritable (l : List ℤ) (w : ℕ) (out : List ℤ) (terms steps : List ℕ) : Type 0 where
+  pub sound : Sound l w
+  pub out-fits : length out ≡ length l
+  pub terms-fit : length terms ≡ termWidth * termEntries (gatesIn l)
+  pub steps-fit : length steps ≡ stepWidth * stepEntries (gatesIn l)
+
+-- what they then hold: the result and 0, and 0
+pub record Rewrites (l : List ℤ) (qcap tcap : ℕ) (c : Counts) (out′ : List ℤ) (terms′ steps′ : List ℕ) : Type 0 where
+  pub counts : counted c ≡ Paper.counts (gatesOf l) (Paper.pass qcap tcap (gatesOf l))
+  pub out-is : out′ ≡ numbersOf (Paper.pass qcap tcap (gatesOf l) .gates) ++ replicate (width * (gatesIn l - length (Paper.pass qcap tcap (gatesOf l) .gates))) (pos 0)
+  pub terms-are : terms′ ≡ replicate (termWidth * termEntries (gatesIn l)) 0
+  pub steps-are : steps′ ≡ replicate (stepWidth * stepEntries (gatesIn l)) 0
+
+-- the same in rooms that are at least as long
+pub record Minimized (l : List ℤ) (qcap tcap : ℕ) (out : List ℤ) (terms steps : List ℕ) (r : Answer) (out′ : List ℤ) (terms′ steps′ : List ℕ) : Type 0 where
+  pub answer : told r ≡ Paper.done (Paper.counts (gatesOf l) (Paper.pass qcap tcap (gatesOf l)))
+  pub out-is : out′ ≡ Paper.outAfter (length (gatesOf l)) (Paper.pass qcap tcap (gatesOf l) .gates) out
+  pub terms-are : terms′ ≡ Paper.termsAfter (length (gatesOf l)) terms
+  pub steps-are : steps′ ≡ Paper.stepsAfter (length (gatesOf l)) steps

@@ -1,0 +1,154 @@
+// The entry point: a list checked, each of its blocks written again where that is cheaper, the rooms cleared, and eight counts.
+use gate::Refusal;
+use gate::Verdict;
+use rules::GATE_TERMS;
+use rules::GATE_WIDTH;
+use rules::MAX_COLUMNS;
+use rules::STEP_WIDTH;
+use rules::TERM_WIDTH;
+use scan::Tally;
+ghost use mathlib.Core.Path.{_≡_};
+ghost use lib.ListN.{length};
+ghost use Rattle.rules.specs.Limits.{clampQubits, clampTerms};
+ghost use Rattle.rules.specs.Numbers.{gatesOf};
+ghost use Rattle.rules.specs.Counts.{twos, ts};
+ghost use Rattle.rules.specs.Refusal.{accepted, verdict};
+ghost use Rattle.scan.specs.Scanning.{gatesIn};
+ghost use Rattle.cnot_min.specs.Minimizing.{Minimizes, Minimized, Rewritable, Rewrites};
+
+// In document 01's order: gates, CNOT and CZ together, t and tdg together, each in and out; blocks closed, blocks replaced.
+pub struct Counts {
+    pub gatesin: usize,
+    pub gatesout: usize,
+    pub twosin: usize,
+    pub twosout: usize,
+    pub tin: usize,
+    pub tout: usize,
+    pub blocks: usize,
+    pub replaced: usize,
+}
+
+pub enum Answer {
+    Refused(Refusal),
+    Done(Counts),
+}
+
+// The qubit cap is clamped to 1..128.
+fn clamp_qubits(cap: usize) -> usize
+    ensures { λ r. ⌜ r ≡ clampQubits cap ⌝ }
+{
+    if cap < 1 {
+        1
+    } else if MAX_COLUMNS < cap {
+        MAX_COLUMNS
+    } else {
+        cap
+    }
+}
+
+// The term cap is raised to at least 1.
+fn clamp_terms(cap: usize) -> usize
+    ensures { λ r. ⌜ r ≡ clampTerms cap ⌝ }
+{
+    if cap < 1 { 1 } else { cap }
+}
+
+// The counts of a list and of the gates made of it.
+fn count(list: &[i32], made: &[i32], s: Tally) -> Counts
+    ensures { λ r. ⌜ r ≡ record { gatesin = gatesIn (now (list .entry)); gatesout = s .gates; twosin = twos (gatesOf (now (list .entry))); twosout = twos (gatesOf (now (made .entry))); tin = ts (gatesOf (now (list .entry))); tout = ts (gatesOf (now (made .entry))); blocks = s .blocks; replaced = s .replaced } ⌝ }
+{
+    Counts {
+        gatesin: list.len() / GATE_WIDTH,
+        gatesout: s.gates,
+        twosin: gate::count_two(list),
+        twosout: gate::count_two(made),
+        tin: gate::count_t(list),
+        tout: gate::count_t(made),
+        blocks: s.blocks,
+        replaced: s.replaced,
+    }
+}
+
+// An accepted list, in rooms that are exactly what it needs.
+fn rewrite(
+    list: &[i32],
+    wires: usize,
+    qcap: usize,
+    tcap: usize,
+    out: &mut [i32],
+    terms: &mut [u64],
+    steps: &mut [u32],
+) -> Counts
+    requires { ⌜ Rewritable (now list) wires (now out) (now terms) (now steps) ⌝ }
+    ensures { λ r. ⌜ Rewrites (now (list .entry)) qcap tcap r (now (out .exit)) (now (terms .exit)) (now (steps .exit)) ⌝ }
+{
+    let mut table = [0u32; 1024];
+    let s = scan::scan(
+        list,
+        clamp_qubits(qcap),
+        clamp_terms(tcap),
+        &mut table[..wires],
+        &mut *out,
+        &mut *terms,
+        &mut *steps,
+    );
+    let end = GATE_WIDTH * s.gates;
+    let counts = count(list, &out[..end], s);
+    clear::clear_out(&mut out[end..]);
+    clear::clear_terms(terms);
+    clear::clear_steps(steps);
+    counts
+}
+
+// An accepted list: of each room, only the part that is needed is lent on, so nothing beyond it is ever written.
+fn minimize(
+    list: &[i32],
+    wires: usize,
+    bits: usize,
+    qcap: usize,
+    tcap: usize,
+    out: &mut [i32],
+    terms: &mut [u64],
+    steps: &mut [u32],
+) -> Answer
+    requires { ⌜ verdict (now list) wires bits (length (now out)) (length (now terms)) (length (now steps)) ≡ accepted ⌝ }
+    ensures { λ r. ⌜ Minimized (now (list .entry)) qcap tcap (now (out .entry)) (now (terms .entry)) (now (steps .entry)) r (now (out .exit)) (now (terms .exit)) (now (steps .exit)) ⌝ }
+{
+    let g = list.len() / GATE_WIDTH;
+    let c = rewrite(
+        list,
+        wires,
+        qcap,
+        tcap,
+        &mut out[..GATE_WIDTH * g],
+        &mut terms[..TERM_WIDTH * (GATE_TERMS * g)],
+        &mut steps[..STEP_WIDTH * (g + MAX_COLUMNS)],
+    );
+    Answer::Done(c)
+}
+
+// Every list, any two caps, any three rooms: refused, and nothing is written; or done.
+pub fn cnot_min_with(
+    list: &[i32],
+    wires: usize,
+    bits: usize,
+    qubit_cap: usize,
+    term_cap: usize,
+    out: &mut [i32],
+    terms: &mut [u64],
+    steps: &mut [u32],
+) -> Answer
+    ensures { λ r. ⌜ Minimizes (now (list .entry)) wires bits «qubit_cap» «term_cap» (now (out .entry)) (now (terms .entry)) (now (steps .entry)) r (now (out .exit)) (now (terms .exit)) (now (steps .exit)) ⌝ }
+{
+    let Verdict::Refused(refusal) = gate::check_list(
+        list,
+        wires,
+        bits,
+        out.len(),
+        terms.len(),
+        steps.len(),
+    ) else {
+        return minimize(list, wires, bits, qubit_cap, term_cap, out, terms, steps);
+    };
+    Answer::Refused(refusal)
+}
