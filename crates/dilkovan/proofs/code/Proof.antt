@@ -1,0 +1,33 @@
+-- `dilkovan::code` meets its contract, case by case.
+use mathlib.Core.Path.{refl}
+use native.Mathlib.Omega.{arith}
+use borrow.Author.Needs.{needs}
+use Rattle.dilkovan.specs.Doors.{Placed}
+use Rattle.dilkovan.proofs.code.Statement.{statement}
+use Rattle.dilkovan.proofs.code.Tie as tie
+
+enum-known-a : tie.Need-enum-known-a
+enum-known-a c = search needs
+
+cast-result : tie.Need-cast-result
+cast-result c = search needs
+
+mul-result : tie.Need-mul-result
+mul-result c = search needs
+
+add-result : tie.Need-add-result
+unfolding Placed
+add-result c = let p = rw ((c .before .before) .a .given .1) at ((c .before .before .before .before) .pre) in omega (arith, p)
+
+enum-told : tie.Need-enum-told
+enum-told c = search needs
+
+returns : tie.Need-returns
+returns c = rw ((c .before .before) .a .given .1) refl
+
+returns-2 : tie.Need-returns-2
+returns-2 c = search needs
+
+pub code-spec : {M : Type 1} → statement M
+code-spec =
+    tie.close (tie.spec enum-known-a cast-result mul-result add-result enum-told returns returns-2)

@@ -1,0 +1,65 @@
+// The static library: the entry points under names that a program in another language can call. A slice is a pointer and a count.
+use cnot_min::Answer;
+use cnot_min::Counts;
+ghost use mathlib.Core.Path.{_≡_};
+ghost use Rattle.cnot_min.specs.Minimizing.{told, counted};
+ghost use Rattle.dilkovan.specs.Doors.{coded, listed, Exports, Placed};
+
+// 0 where it is done; else the refusal's number * 2^32 + its place.
+fn code(a: Answer) -> u64
+    requires { ⌜ Placed a ⌝ }
+    ensures { λ r. ⌜ r ≡ coded (told a) ⌝ }
+{
+    match a {
+        Answer::Refused(r) => r.number as u64 * 4294967296 + r.place as u64,
+        Answer::Done(_) => 0,
+    }
+}
+
+// The counts, in document 01's order.
+fn store(c: Counts, room: &mut [u64; 8])
+    ensures { λ r. ⌜ now (room .exit) ≡ listed (counted c) ⌝ }
+{
+    *room = [
+        c.gatesin as u64,
+        c.gatesout as u64,
+        c.twosin as u64,
+        c.twosout as u64,
+        c.tin as u64,
+        c.tout as u64,
+        c.blocks as u64,
+        c.replaced as u64,
+    ];
+}
+
+// `cnot_min::cnot_min_with`. The counts are written only when it is done.
+#[no_mangle]
+pub extern "C" fn dilkovan_cnot_min(
+    list: &[i32],
+    wires: usize,
+    bits: usize,
+    qubit_cap: usize,
+    term_cap: usize,
+    out: &mut [i32],
+    terms: &mut [u64],
+    steps: &mut [u32],
+    counts: &mut [u64; 8],
+) -> u64
+    ensures { λ r. ⌜ Exports (now (list .entry)) wires bits «qubit_cap» «term_cap» (now (out .entry)) (now (terms .entry)) (now (steps .entry)) (now (counts .entry)) r (now (out .exit)) (now (terms .exit)) (now (steps .exit)) (now (counts .exit)) ⌝ }
+{
+    let a = cnot_min::cnot_min_with(
+        list,
+        wires,
+        bits,
+        qubit_cap,
+        term_cap,
+        out,
+        terms,
+        steps,
+    );
+    let Answer::Done(c) = a else {
+        return code(a);
+    };
+    store(c, counts);
+    0
+}
