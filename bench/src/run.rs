@@ -1,0 +1,255 @@
+//! Times the whole pass beside the original's own text: the same lists, several different ones in turn, outputs compared.
+#![allow(dead_code)]
+mod angle;
+mod rest;
+use rest::{angle_stats, pass, qasm, symbolic_angle};
+mod circuit;
+mod cnot_min;
+mod gates;
+
+use circuit::Circuit;
+use std::hint::black_box;
+use std::time::Instant;
+
+unsafe extern "C" {
+    fn dilkovan_cnot_min(
+        list: *const i32, list_len: usize, wires: usize, bits: usize, qubit_cap: usize, term_cap: usize,
+        out: *mut i32, out_len: usize, terms: *mut u64, terms_len: usize, steps: *mut u32, steps_len: usize,
+        counts: *mut [u64; 8],
+    ) -> u64;
+}
+
+/// A small generator of random numbers, so that the lists are the same in every run.
+struct Random(u64);
+
+impl Random {
+    fn next(&mut self) -> u64 {
+        self.0 ^= self.0 << 13;
+        self.0 ^= self.0 >> 7;
+        self.0 ^= self.0 << 17;
+        self.0.wrapping_mul(0x2545_f491_4f6c_dd1d)
+    }
+    fn below(&mut self, n: usize) -> usize {
+        (self.next() >> 33) as usize % n
+    }
+}
+
+/// The port's rooms, exactly as long as a list needs.
+struct Rooms {
+    out: Vec<i32>,
+    terms: Vec<u64>,
+    steps: Vec<u32>,
+    counts: [u64; 8],
+}
+
+impl Rooms {
+    fn of(list: &[i32]) -> Rooms {
+        let g = list.len() / 5;
+        Rooms { out: vec![0; 5 * g], terms: vec![0; 9 * g], steps: vec![0; 2 * (g + 128)], counts: [0; 8] }
+    }
+    fn run(&mut self, list: &[i32], wires: usize, qubits: usize, terms: usize) -> u64 {
+        unsafe {
+            dilkovan_cnot_min(
+                list.as_ptr(), list.len(), wires, 0, qubits, terms,
+                self.out.as_mut_ptr(), self.out.len(), self.terms.as_mut_ptr(), self.terms.len(),
+                self.steps.as_mut_ptr(), self.steps.len(), &mut self.counts,
+            )
+        }
+    }
+}
+
+type List = Vec<i32>;
+
+fn one(list: &mut List, code: i32, q: usize) {
+    list.extend([code, q as i32, 0, 0, 0]);
+}
+
+fn two(list: &mut List, code: i32, p: usize, q: usize) {
+    list.extend([code, p as i32, q as i32, 0, 0]);
+}
+
+/// Random gates of the fragment: `rotations` percent of them rotations, the others CNOT, CZ and x; and an h now and then.
+fn dense(seed: u64, gates: usize, wires: usize, rotations: usize) -> List {
+    let mut r = Random(seed);
+    let mut list = List::new();
+    for _ in 0..gates {
+        let (p, q) = (r.below(wires), r.below(wires));
+        if r.below(400) == 0 {
+            one(&mut list, 10, p);
+        } else if r.below(100) < rotations {
+            one(&mut list, 2 + r.below(5) as i32, p);
+        } else if p == q {
+            one(&mut list, 1, p);
+        } else {
+            two(&mut list, if r.below(8) == 0 { 9 } else { 8 }, p, q);
+        }
+    }
+    list
+}
+
+/// A t on every wire, an h between the rounds.
+fn t_wall(gates: usize, wires: usize) -> List {
+    let mut list = List::new();
+    while list.len() < 5 * gates {
+        (0..wires).for_each(|q| one(&mut list, 2, q));
+        one(&mut list, 10, 0);
+    }
+    list.truncate(5 * gates);
+    list
+}
+
+/// A cz on every pair of neighbours, an h between the rounds.
+fn cz_wall(gates: usize, wires: usize) -> List {
+    let mut list = List::new();
+    while list.len() < 5 * gates {
+        (0..wires - 1).for_each(|q| two(&mut list, 9, q, q + 1));
+        one(&mut list, 10, 0);
+    }
+    list.truncate(5 * gates);
+    list
+}
+
+/// Random cz gates in one block.
+fn cz_only(seed: u64, gates: usize, wires: usize) -> List {
+    let mut r = Random(seed);
+    let mut list = List::new();
+    while list.len() < 5 * gates {
+        let (p, q) = (r.below(wires), r.below(wires));
+        if p != q {
+            two(&mut list, 9, p, q);
+        }
+    }
+    list
+}
+
+/// The phase part of a Fourier transform: each controlled turn as CNOTs and rotations.
+fn fourier(gates: usize, wires: usize) -> List {
+    let mut list = List::new();
+    'full: loop {
+        for i in 0..wires {
+            for j in i + 1..wires {
+                let k = 1 + ((j - i) % 3) as i32;
+                list.extend([7, i as i32, 0, 0, k]);
+                list.extend([7, j as i32, 0, 0, k]);
+                two(&mut list, 8, i, j);
+                list.extend([7, j as i32, 0, 0, -k]);
+                two(&mut list, 8, i, j);
+                if list.len() >= 5 * gates {
+                    break 'full;
+                }
+            }
+            one(&mut list, 10, i);
+        }
+    }
+    list.truncate(5 * gates);
+    list
+}
+
+/// A ripple adder of `bits` bits: Toffolis as h, CNOT and t, CNOTs between.
+fn adder(bits: usize) -> List {
+    let mut list = List::new();
+    let toffoli = |list: &mut List, a: usize, b: usize, c: usize| {
+        one(list, 10, c);
+        for (code, p, q) in [(8, b, c), (3, c, c), (8, a, c), (2, c, c), (8, b, c), (3, c, c), (8, a, c), (2, b, b), (2, c, c), (10, c, c), (8, a, b), (2, a, a), (3, b, b), (8, a, b)] {
+            if code == 8 { two(list, 8, p, q) } else { one(list, code, p) }
+        }
+    };
+    for i in 0..bits {
+        let (a, b, c) = (3 * i, 3 * i + 1, 3 * i + 2);
+        two(&mut list, 8, a, b);
+        two(&mut list, 8, a, c);
+        toffoli(&mut list, c, b, a);
+    }
+    list.truncate(5 * 8192);
+    list
+}
+
+fn median(mut times: Vec<f64>) -> f64 {
+    times.sort_by(|a, b| a.total_cmp(b));
+    times[times.len() / 2]
+}
+
+/// Times both on the lists in turn, and holds the port's output to the original's.
+fn compare(name: &str, lists: &[List], wires: usize, qubits: usize, terms: usize) {
+    let circuits: Vec<Circuit> = lists
+        .iter()
+        .map(|list| {
+            let mut c = Circuit::with_cbits(wires, 0);
+            list.chunks(5).for_each(|g| c.apply(gates::gate(g)));
+            c
+        })
+        .collect();
+    let mut rooms: Vec<Rooms> = lists.iter().map(|l| Rooms::of(l)).collect();
+    for ((list, circuit), room) in lists.iter().zip(&circuits).zip(&mut rooms) {
+        assert_eq!(room.run(list, wires, qubits, terms), 0, "{name}: refused");
+        let theirs: List = cnot_min::cnot_min_with(circuit, qubits, terms).gates.iter().flat_map(gates::numbers).collect();
+        assert_eq!(room.out[..5 * room.counts[1] as usize], theirs, "{name}: the outputs differ");
+    }
+    let (mut ours, mut theirs) = (Vec::new(), Vec::new());
+    let began = Instant::now();
+    let mut rounds = 0;
+    while rounds < 5 || (began.elapsed().as_secs_f64() < 1.0 && rounds < 200) {
+        for ((list, circuit), room) in lists.iter().zip(&circuits).zip(&mut rooms) {
+            let t = Instant::now();
+            black_box(room.run(black_box(list), wires, qubits, terms));
+            ours.push(t.elapsed().as_secs_f64() * 1e6);
+            let t = Instant::now();
+            black_box(cnot_min::cnot_min_with(black_box(circuit), qubits, terms));
+            theirs.push(t.elapsed().as_secs_f64() * 1e6);
+        }
+        rounds += 1;
+    }
+    let (ours, theirs) = (median(ours), median(theirs));
+    let g = lists[0].len() / 5;
+    println!("| {name} | {g} | {ours:.1} | {theirs:.1} | {:.2} | {:.1} |", ours / theirs, ours * 1000.0 / g as f64);
+}
+
+const DEPTH: usize = 1 << 18;
+
+/// The stack below a frame is painted, the port runs, and what it left of the paint tells how deep it went.
+#[inline(never)]
+fn depth_of(list: &[i32], wires: usize) -> usize {
+    let mut rooms = Rooms::of(list);
+    let here = 0u8;
+    let base = &raw const here as usize;
+    for at in base - DEPTH..base - 512 {
+        unsafe { std::ptr::write_volatile(at as *mut u8, 0xa5) }
+    }
+    rooms.run(list, wires, 128, 512);
+    let kept = (base - DEPTH..base).take_while(|&at| unsafe { std::ptr::read_volatile(at as *const u8) } == 0xa5).count();
+    DEPTH - kept
+}
+
+/// The deepest stack that a call of the port uses, on a thread whose stack is there as a whole.
+fn depth(lists: Vec<(List, usize)>) -> usize {
+    let thread = std::thread::Builder::new().stack_size(4 * DEPTH);
+    let worker = thread.spawn(move || lists.iter().map(|(list, wires)| depth_of(list, *wires)).max().unwrap_or(0));
+    worker.unwrap().join().unwrap()
+}
+
+fn main() {
+    println!("| list | gates | port | original | ratio | port, ns a gate |");
+    println!("|---|---|---|---|---|---|");
+    let several = |f: &dyn Fn(u64) -> List| -> Vec<List> { (1..5).map(|s| f(s * 7919)).collect() };
+    for wires in [128, 16, 3] {
+        for rotations in [5, 30, 60] {
+            compare(&format!("dense, {wires} wires, {rotations} % rotations"), &several(&|s| dense(s, 8192, wires, rotations)), wires, 128, 512);
+        }
+    }
+    compare("dense, 1,024 wires, 60 % rotations", &several(&|s| dense(s, 8192, 1024, 60)), 1024, 128, 512);
+    compare("t wall, 128 wires", &[t_wall(8192, 128)], 128, 128, 512);
+    compare("cz wall, 128 wires", &[cz_wall(8192, 128)], 128, 128, 512);
+    compare("cz only, one block, 128 wires", &several(&|s| cz_only(s, 8192, 128)), 128, 128, 512);
+    compare("Fourier, 90 wires", &[fourier(8192, 90)], 90, 128, 512);
+    compare("adder, 200 bits", &[adder(200)], 600, 128, 512);
+    for gates in [512, 1024, 2048, 4096, 8192] {
+        compare(&format!("growth: 16 wires, 30 %, {gates} gates"), &several(&|s| dense(s, gates, 16, 30)), 16, 128, 512);
+    }
+    for wires in [8, 16, 32, 64, 128] {
+        compare(&format!("growth: {wires} wires, 30 %, 4,096 gates"), &several(&|s| dense(s, 4096, wires, 30)), wires, 128, 512);
+    }
+    compare("term cap 24,576, 128 wires, 30 %", &several(&|s| dense(s, 8192, 128, 30)), 128, 128, 24576);
+    let lists = vec![(dense(1, 8192, 128, 30), 128), (t_wall(8192, 128), 128), (cz_only(1, 8192, 128), 128), (dense(1, 8192, 1024, 60), 1024), (fourier(8192, 90), 90)];
+    println!();
+    println!("Deepest stack of a call on the lists above: {} bytes.", depth(lists));
+}
