@@ -1,18 +1,19 @@
 -- A gate's fold, from what the functions on local indices leave.
 --     flips-here, flips-there    the constants after one is added to
 --     add-joined                 the rows after a parity and a constant are added to one
---     folded-is                  the terms after a fold
---     moved-holds, turned-holds  the block after a gate that changes its rows, or its terms alone
+--     folds-one, cz-turns        the terms after a fold, and after the three of cz
+--     flip-, cnot-, turn-, cz-absorbs    the block after a gate
 use mathlib.Core.Path.{_≡_, refl, sym, ap, ap₂, _∙_}
 use mathlib.Core.Logic.{_≢_}
 use mathlib.Core.Bool.{Bool, true, false, not, Bool·beq, cond}
 use mathlib.Core.List.{List, [], _∷_}
-use Prim.Native.Nat.{ℕ, _+_, _^_, _≤_, _<_}
+use Prim.Native.Nat.{ℕ, _*_, _^_, _≤_, _<_}
 use native.Mathlib.Omega.{arith}
 use lib.ListN.{length, getD, set, take, length-set, length-take}
 use lib.Seq.{getD-set-same, getD-set-other, set-getD, length-take-le}
 use lib.Dec.{eqb}
 use borrow.Author.Tests.{eq-eqb, ne-eqb}
+use Rattle.rules.specs.Limits.{termWidth}
 use Rattle.rules.specs.Bit.{_⊕_, bit, xor}
 use Rattle.rules.specs.Meaning.{flip, phase, cnot, cz}
 use Rattle.rules.specs.Fold.{Row, Term, Block, addRow, addTerm, signed, entered, rowsBy, termsBy, absorb, join}
@@ -21,13 +22,14 @@ use Rattle.rules.proofs.Bits.{split, same, bit-xor, bit-unit, bit-zero, ⊕-fal
 use Rattle.rules.proofs.Bounds.{length-addTerm}
 use Rattle.parity.specs.View.{val}
 use Rattle.parity.proofs.Laws.{xor-zero-r}
-use Rattle.terms.specs.Terms.{termsOf, Begins}
+use Rattle.terms.specs.Terms.{termsOf, Adds}
 use Rattle.rows.specs.Rows.{rowsOf}
-use Rattle.block.specs.View.{rowsFrom, rowAt, rowsAt, termsAt, Joined, Folded, Holds}
-use Rattle.block.specs.Steps.{Flips, Crosses, Turns, Moves, czTerms}
+use Rattle.block.specs.View.{rowsFrom, rowAt, rowsAt, termsAt, Joined, Folded}
+use Rattle.block.specs.Steps.{Behind, Flips, Crosses, Turns, TurnsOne, Moves, Absorbs, czTerms}
 use Rattle.block.specs.declared.Block as State
 use Rattle.block.proofs.Rowing.{row-eq, add-met}
 use Rattle.block.proofs.Entering.{rows-are, only, row-is}
+use Rattle.block.proofs.Parts.{behind-more, behind-same}
 
 -- ---- constants
 
@@ -99,18 +101,26 @@ pub terms-length : {ts : List Term} {b : State.Block} {room : List ℕ} → Fold
 unfolding termsAt
 terms-length {ts} {b} {room} h = ap length (sym (h .same)) ∙ length-take-le (b .terms) (termsOf room) (h .few)
 
-module _ (p k : ℕ) (b r : State.Block) (room room′ : List ℕ) where
-  pub folded-is : Begins (addTerm p k (take (b .terms) (termsOf room))) (r .terms) (r .terms) (termsOf room) (termsOf room′)
-      → Folded (addTerm p k (termsAt b room)) r room′
+-- a fold never makes fewer
+fold-grows : (p k : ℕ) (ts : List Term) → length ts ≤ length (addTerm p k ts)
+unfolding addTerm
+fold-grows p k [] = omega arith
+fold-grows p k (t ∷ ts) = split (eqb (t .parity) p) (λ e. rw e (omega arith)) (λ e. rw e (omega (arith, fold-grows p k ts)))
+
+module _ (p k : ℕ) (b r : State.Block) (room room′ : List ℕ) (few : b .terms ≤ length (termsOf room))
+    (a : Adds (addTerm p k (take (b .terms) (termsOf room))) (r .terms) room room′) where
+  pub folds-one : r .wires ≡ b .wires → r .flips ≡ b .flips → TurnsOne (addTerm p k (termsAt b room)) b r room room′
   unfolding termsAt
-  folded-is e =
+  folds-one w f =
+      let e = a .begins in
       let s = length-take (r .terms) (termsOf room′) in
       let t = ap length (e .front) ∙ e .many in
-      record { few = omega (arith, s, t); same = e .front }
-
--- at most one more
-pub folded-more : (p k n m : ℕ) (us vs : List Term) → Begins (addTerm p k (take n us)) m m us vs → m ≤ n + 1
-folded-more p k n m us vs e = omega (arith, e .many, length-addTerm p k (take n us), length-take n us)
+      let n = length-take-le (b .terms) (termsOf room) few in
+      let ts : List Term = take (b .terms) (termsOf room) in
+      record {
+        turns = record { wires = w; flips = f; folded = record { few = omega (arith, s, t); same = e .front }; grows = omega (arith, e .many, fold-grows p k ts); rest = a .rest };
+        more = omega (arith, e .many, length-addTerm p k ts);
+      }
 
 -- the terms of a state whose count and room are another's
 pub terms-same : (b r : State.Block) (room : List ℕ) → r .terms ≡ b .terms → termsAt r room ≡ termsAt b room
@@ -118,9 +128,9 @@ unfolding termsAt
 terms-same b r room e = rw e
 
 -- the fold of a rotation, by what was read of its wire
-pub turn-turns : (p v : ℕ) (s t : Bool) (k : ℕ) (ts : List Term) (b r : State.Block) (room : List ℕ) → p ≡ v → s ≡ t
-    → Turns (addTerm p (signed s k) ts) b r room → Turns (addTerm v (signed t k) ts) b r room
-turn-turns p v s t k ts b r room e f h = rw (e, f) at h
+pub turn-turns : (p v : ℕ) (s t : Bool) (k : ℕ) (ts : List Term) (b r : State.Block) (room room′ : List ℕ) → p ≡ v → s ≡ t
+    → Turns (addTerm p (signed s k) ts) b r room room′ → Turns (addTerm v (signed t k) ts) b r room room′
+turn-turns p v s t k ts b r room room′ e f h = rw (e, f) at h
 
 -- the constants differ, as the code tests it
 pub differ-is : (s t : Bool) → not (Bool·beq s t) ≡ (s ⊕ t)
@@ -131,50 +141,70 @@ differ-is false false = refl
 
 -- the three folds of cz
 pub cz-turns : (x y z : ℕ) (s t u : Bool) (b one two r : State.Block) (room room1 room2 room3 : List ℕ)
-    → Turns (addTerm x (signed s 2) (termsAt b room)) b one room1 → Turns (addTerm y (signed t 2) (termsAt one room1)) one two room2
-    → Turns (addTerm z (signed u 6) (termsAt two room2)) two r room3 → z ≡ xor x y → u ≡ (s ⊕ t) → Turns (czTerms x s y t (termsAt b room)) b r room3
-cz-turns x y z s t u b one two r room room1 room2 room3 e f g v w =
+    → TurnsOne (addTerm x (signed s 2) (termsAt b room)) b one room room1 → TurnsOne (addTerm y (signed t 2) (termsAt one room1)) one two room1 room2
+    → TurnsOne (addTerm z (signed u 6) (termsAt two room2)) two r room2 room3 → z ≡ xor x y → u ≡ (s ⊕ t) → Turns (czTerms x s y t (termsAt b room)) b r room room3
+cz-turns x y z s t u b one two r room room1 room2 room3 first second third v w =
+    let e = first .turns in
+    let f = second .turns in
+    let g = third .turns in
     let m : addTerm z (signed u 6) (termsAt two room2) ≡ czTerms x s y t (termsAt b room) =
     ap₂ (λ (a : ℕ) (o : Bool). addTerm a (signed o 6) (termsAt two room2)) v w
     ∙ ap (addTerm (xor x y) (signed (s ⊕ t) 6)) (f .folded .same ∙ ap (addTerm y (signed t 2)) (e .folded .same)) in
+    let end : ℕ = termWidth * r .terms in
     record {
       wires = g .wires ∙ f .wires ∙ e .wires;
       flips = g .flips ∙ f .flips ∙ e .flips;
       folded = record { few = g .folded .few; same = g .folded .same ∙ m };
+      grows = omega (arith, e .grows, f .grows, g .grows);
+      rest =
+          g .rest ∙ behind-more (termWidth * two .terms) end room2 room1 (omega (arith, g .grows)) (f .rest)
+          ∙ behind-more (termWidth * one .terms) end room1 room (omega (arith, f .grows, g .grows)) (e .rest);
     }
 
 -- ---- gates
 
-module _ (rs : List Row) (ts : List Term) (b r : State.Block) (table names rows room : List ℕ) where
+module _ (rs : List Row) (ts : List Term) (b r : State.Block) (names rows room table′ names′ rows′ : List ℕ) where
   kept : Folded ts b room → r .terms ≡ b .terms → Folded ts r room
   kept f e = record { few = rw e (f .few); same = terms-same b r room e ∙ f .same }
 
-  pub flip-holds : (q : ℕ) → Moves (rowsBy (flip q) (entered (flip q) rs)) b r table names rows → Folded ts b room
-      → Holds (absorb (flip q) (record { rows = rs; terms = ts })) r table names rows room
+  pub flip-absorbs : (q : ℕ) → Moves (rowsBy (flip q) (entered (flip q) rs)) b r names rows table′ names′ rows′ → Folded ts b room
+      → Absorbs (absorb (flip q) (record { rows = rs; terms = ts })) b r names rows room table′ names′ rows′ room
   unfolding absorb termsBy
-  flip-holds q m f = record { rows-are = m .joined; terms-are = kept f (m .terms) }
+  flip-absorbs q m f = record { holds = record { rows-are = m .joined; terms-are = kept f (m .terms) }; more = m .more; grows = omega (arith, m .terms); behind = m .behind; rest = refl }
 
-  pub cnot-holds : (c t : ℕ) → Moves (rowsBy (cnot c t) (entered (cnot c t) rs)) b r table names rows → Folded ts b room
-      → Holds (absorb (cnot c t) (record { rows = rs; terms = ts })) r table names rows room
+  pub cnot-absorbs : (c t : ℕ) → Moves (rowsBy (cnot c t) (entered (cnot c t) rs)) b r names rows table′ names′ rows′ → Folded ts b room
+      → Absorbs (absorb (cnot c t) (record { rows = rs; terms = ts })) b r names rows room table′ names′ rows′ room
   unfolding absorb termsBy
-  cnot-holds c t m f = record { rows-are = m .joined; terms-are = kept f (m .terms) }
+  cnot-absorbs c t m f = record { holds = record { rows-are = m .joined; terms-are = kept f (m .terms) }; more = m .more; grows = omega (arith, m .terms); behind = m .behind; rest = refl }
 
 -- e is the block with the gate's wires joined, r the block after
-module _ (rs : List Row) (b e r : State.Block) (table names rows room room′ : List ℕ) (same : e .terms ≡ b .terms) where
-  pub turn-holds : (k i q : ℕ) → Joined (join q rs) e table names rows → i < e .wires → getD names i 0 ≡ q
-      → Turns (addTerm (getD (rowsOf rows) i 0) (signed (bit (val (e .flips)) i) k) (termsAt e room)) e r room′
-      → Holds (absorb (phase k q) (record { rows = rs; terms = termsAt b room })) r table names rows room′
+module _ (rs : List Row) (b e r : State.Block) (names rows table′ names′ rows′ room room′ : List ℕ) (same : e .terms ≡ b .terms) (more : b .wires ≤ e .wires) (behind : Behind e names rows names′ rows′) where
+  pub turn-absorbs : (k i q : ℕ) → Joined (join q rs) e table′ names′ rows′ → i < e .wires → getD names′ i 0 ≡ q
+      → Turns (addTerm (getD (rowsOf rows′) i 0) (signed (bit (val (e .flips)) i) k) (termsAt e room)) e r room room′
+      → Absorbs (absorb (phase k q) (record { rows = rs; terms = termsAt b room })) b r names rows room table′ names′ rows′ room′
   unfolding absorb entered rowsBy termsBy
-  turn-holds k i q h l n t = record {
-    rows-are = still-joined h r (t .wires) (t .flips);
-    terms-are = rw (row-is h i q l n, ← terms-same b e room same) (t .folded);
+  turn-absorbs k i q h l n t = record {
+    holds = record {
+      rows-are = still-joined h r (t .wires) (t .flips);
+      terms-are = rw (row-is h i q l n, ← terms-same b e room same) (t .folded);
+    };
+    more = omega (arith, more, t .wires);
+    grows = omega (arith, same, t .grows);
+    behind = behind-same e r names rows names′ rows′ (t .wires) behind;
+    rest = t .rest;
   }
 
-  pub cz-holds : (i j c t : ℕ) → Joined (join t (join c rs)) e table names rows → i < e .wires → j < e .wires → getD names i 0 ≡ c → getD names j 0 ≡ t
-      → Turns (czTerms (getD (rowsOf rows) i 0) (bit (val (e .flips)) i) (getD (rowsOf rows) j 0) (bit (val (e .flips)) j) (termsAt e room)) e r room′
-      → Holds (absorb (cz c t) (record { rows = rs; terms = termsAt b room })) r table names rows room′
+  pub cz-absorbs : (i j c t : ℕ) → Joined (join t (join c rs)) e table′ names′ rows′ → i < e .wires → j < e .wires → getD names′ i 0 ≡ c → getD names′ j 0 ≡ t
+      → Turns (czTerms (getD (rowsOf rows′) i 0) (bit (val (e .flips)) i) (getD (rowsOf rows′) j 0) (bit (val (e .flips)) j) (termsAt e room)) e r room room′
+      → Absorbs (absorb (cz c t) (record { rows = rs; terms = termsAt b room })) b r names rows room table′ names′ rows′ room′
   unfolding absorb entered rowsBy termsBy
-  cz-holds i j c t h li lj ni nj k = record {
-    rows-are = still-joined h r (k .wires) (k .flips);
-    terms-are = rw (row-is h i c li ni, row-is h j t lj nj, ← terms-same b e room same) (k .folded);
+  cz-absorbs i j c t h li lj ni nj k = record {
+    holds = record {
+      rows-are = still-joined h r (k .wires) (k .flips);
+      terms-are = rw (row-is h i c li ni, row-is h j t lj nj, ← terms-same b e room same) (k .folded);
+    };
+    more = omega (arith, more, k .wires);
+    grows = omega (arith, same, k .grows);
+    behind = behind-same e r names rows names′ rows′ (k .wires) behind;
+    rest = k .rest;
   }

@@ -5,3 +5,4 @@ pub mod Folding
 pub mod Codes
 pub mod Taking
 pub mod Using
+pub mod Parts

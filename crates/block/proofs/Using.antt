@@ -2,18 +2,19 @@
 --     holds-same, holds-sound    the block that state and rooms stand for; they are in step
 --     wired-read                 an accepted gate, as it was read, has its wires in the table
 --     ask-ready, absorb-ready    what the test of a gate asks, and what its fold asks once the test has said yes
+--     Since, since-none, since-absorb     what the rooms hold behind a block is as it was when the block began
 --     rows-at, names-are, parities-are    the rows, their wires and their parities, as the rooms have them
 use mathlib.Core.Path.{_≡_, refl, sym, ap, ap₂, _∙_}
 use mathlib.Core.Bool.{true, false, not, _&&_, _||_, true≢false}
 use mathlib.Core.List.{List, map}
-use Prim.Native.Nat.{ℕ, zero, suc, _+_, _≤_, _<_}
+use Prim.Native.Nat.{ℕ, zero, suc, _+_, _*_, _≤_, _<_}
 use native.Mathlib.Nat.{le-trans}
 use native.Mathlib.Omega.{arith}
-use lib.ListN.{length, getD, take, length-map, List·getD-map}
+use lib.ListN.{length, getD, take, drop, length-map, List·getD-map}
 use lib.Seq.{ext-getD, getD-take, length-take-le}
 use lib.Dec.{leb, ltb}
 use borrow.Author.Tests.{leb-true}
-use Rattle.rules.specs.Limits.{maxColumns}
+use Rattle.rules.specs.Limits.{maxColumns, termWidth}
 use Rattle.rules.specs.Gate as Codes
 use Rattle.rules.specs.Meaning.{Op, op, opaque}
 use Rattle.rules.specs.Fold.{Row, Block, entered}
@@ -27,10 +28,11 @@ use Rattle.gate.specs.Writing.{gateOf}
 use Rattle.gate.specs.Reading.{Reads}
 use Rattle.gate.specs.declared.Gate.{Gate}
 use Rattle.block.specs.View.{rowsFrom, rowAt, blockAt, Joined, Holds, Sound}
-use Rattle.block.specs.Steps.{Wired, Absorbable, Askable}
+use Rattle.block.specs.Steps.{Behind, Absorbs, Wired, Absorbable, Askable}
 use Rattle.block.specs.declared.Block as State
 use Rattle.block.proofs.Codes.{op-other, op-some}
 use Rattle.block.proofs.Entering.{rows-are, wires-are, rowed-is}
+use Rattle.block.proofs.Parts.{behind-more, behind-on}
 
 module _ {p : Block} {b : State.Block} {table names rows room : List ℕ} (h : Holds p b table names rows room) where
   pub holds-same : blockAt b names rows room ≡ p
@@ -71,6 +73,23 @@ wired-read w bits p g table f r e = record {
   first-in = rw (e, r .first) (f .first-in);
   second-in = λ t. rw (e, r .second) (f .second-in (rw (r .code) at t));
   apart = λ t. rw (r .first, r .second) (f .first-second (rw (r .code) at t));
+}
+
+-- ---- behind the block, gate by gate
+
+-- behind the block's wires and terms the rooms are as they were when it began
+pub record Since (b : State.Block) (names₀ rows₀ room₀ names rows room : List ℕ) : Type 0 where
+  pub behind : Behind b names₀ rows₀ names rows
+  pub rest : drop (termWidth * b .terms) room ≡ drop (termWidth * b .terms) room₀
+
+pub since-none : (b : State.Block) (names rows room : List ℕ) → Since b names rows room names rows room
+since-none b names rows room = record { behind = record { names-rest = refl; rows-rest = refl }; rest = refl }
+
+pub since-absorb : {p : Block} {b r : State.Block} {table′ : List ℕ} (names₀ rows₀ room₀ : List ℕ) {names rows room names′ rows′ room′ : List ℕ}
+    → Since b names₀ rows₀ room₀ names rows room → Absorbs p b r names rows room table′ names′ rows′ room′ → Since r names₀ rows₀ room₀ names′ rows′ room′
+since-absorb {b = b} {r = r} names₀ rows₀ room₀ {names} {rows} {room} {names′} {rows′} {room′} s a = record {
+  behind = behind-on b r names₀ rows₀ names rows names′ rows′ (a .more) (s .behind) (a .behind);
+  rest = a .rest ∙ behind-more (termWidth * b .terms) (termWidth * r .terms) room room₀ (omega (arith, a .grows)) (s .rest);
 }
 
 -- ---- the rows, as the rooms have them

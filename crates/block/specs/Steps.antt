@@ -3,13 +3,14 @@ use mathlib.Core.Path.{_≡_}
 use mathlib.Core.Logic.{_≢_}
 use mathlib.Core.Bool.{Bool, true, _&&_, _||_, cond}
 use mathlib.Core.List.{List}
-use Prim.Native.Nat.{ℕ, suc, _+_, _-_, _%_, _^_, _≤_, _<_}
-use lib.ListN.{length, getD}
+use Prim.Native.Nat.{ℕ, suc, _+_, _-_, _*_, _%_, _^_, _≤_, _<_}
+use lib.ListN.{length, getD, drop}
 use lib.Dec.{eqb, leb, ltb}
-use Rattle.rules.specs.Limits.{maxColumns, lastFragment}
+use Rattle.rules.specs.Limits.{maxColumns, termWidth, lastFragment}
 use Rattle.rules.specs.Bit.{_⊕_, xor}
 use Rattle.rules.specs.Gate.{second, codeT, codeTdg, codeS, codeSdg, codeZ}
 use Rattle.rules.specs.Meaning.{op}
+use Rattle.rules.specs.Fold as Paper
 use Rattle.rules.specs.Fold.{Row, Term, join, entered, addTerm, signed}
 use Rattle.rules.specs.Scan.{hasTerm}
 use Rattle.rules.specs.Close.{addTo}
@@ -17,8 +18,7 @@ use Rattle.parity.specs.View.{val}
 use Rattle.gate.specs.Writing.{gateOf}
 use Rattle.terms.specs.Terms.{termsOf}
 use Rattle.rows.specs.Rows.{rowsOf}
-use Rattle.join.specs.Tables.{Leaves}
-use Rattle.block.specs.View.{rowsAt, termsAt, Joined, Folded, Rowed, Sound}
+use Rattle.block.specs.View.{rowsAt, termsAt, Joined, Folded, Holds, Rowed, Sound}
 use Rattle.block.specs.declared.Block.{Block}
 use Rattle.block.specs.declared.Entered.{Entered}
 use Rattle.block.specs.declared.EnteredTwo.{EnteredTwo}
@@ -29,11 +29,6 @@ pub record Empty (b : Block) : Type 0 where
   pub wires : b .wires ≡ 0
   pub flips : val (b .flips) ≡ 0
   pub terms : b .terms ≡ 0
-
--- the table is cleared, and the block is empty
-pub record Resets (table names : List ℕ) (b : Block) : Type 0 where
-  pub leaves : Leaves table names
-  pub fresh : Empty b
 
 -- ---- a wire joins
 
@@ -48,6 +43,11 @@ pub record EnterableTwo (b : Block) (c t : ℕ) (table names rows : List ℕ) : 
   pub target : t < length table
   pub few : length (join t (join c (rowsAt b names rows))) ≤ maxColumns
 
+-- behind the wires that have joined, names and rows are as they were
+pub record Behind (b : Block) (names rows names′ rows′ : List ℕ) : Type 0 where
+  pub names-rest : drop (b .wires) names′ ≡ drop (b .wires) names
+  pub rows-rest : drop (2 * b .wires) rows′ ≡ drop (2 * b .wires) rows
+
 -- r has the rows with q joined and q's index; the indices of the wires before stay theirs
 pub record Enters (q : ℕ) (b : Block) (names rows : List ℕ) (r : Entered) (table′ names′ rows′ : List ℕ) : Type 0 where
   pub joined : Joined (join q (rowsAt b names rows)) (r .block) table′ names′ rows′
@@ -56,15 +56,18 @@ pub record Enters (q : ℕ) (b : Block) (names rows : List ℕ) (r : Entered) (t
   pub kept : (i : ℕ) → i < b .wires → getD names′ i 0 ≡ getD names i 0
   pub at : r .at .0 < r .block .wires
   pub name : getD names′ (r .at .0) 0 ≡ q
+  pub behind : Behind (r .block) names rows names′ rows′
 
 -- the same of two wires that join one after the other
 pub record EntersTwo (c t : ℕ) (b : Block) (names rows : List ℕ) (r : EnteredTwo) (table′ names′ rows′ : List ℕ) : Type 0 where
   pub joined : Joined (join t (join c (rowsAt b names rows))) (r .block) table′ names′ rows′
   pub terms : r .block .terms ≡ b .terms
+  pub more : b .wires ≤ r .block .wires
   pub control : r .control .0 < r .block .wires
   pub target : r .target .0 < r .block .wires
   pub control-name : getD names′ (r .control .0) 0 ≡ c
   pub target-name : getD names′ (r .target .0) 0 ≡ t
+  pub behind : Behind (r .block) names rows names′ rows′
 
 -- ---- the folds, on local indices
 
@@ -78,16 +81,19 @@ pub record Flips (b : Block) (i : ℕ) (s : Bool) (r : Block) : Type 0 where
 pub record Crosses (b : Block) (c t : ℕ) (s : Bool) (rows : List ℕ) (r : Block) (rows′ : List ℕ) : Type 0 where
   pub flips : Flips b t s r
   pub held : rowsOf rows′ ≡ addTo c t (rowsOf rows)
+  pub rest : drop (2 * b .wires) rows′ ≡ drop (2 * b .wires) rows
 
--- only the terms change
-pub record Turns (ts : List Term) (b r : Block) (room : List ℕ) : Type 0 where
+-- only the terms change; behind them the term room is as it was
+pub record Turns (ts : List Term) (b r : Block) (room room′ : List ℕ) : Type 0 where
   pub wires : r .wires ≡ b .wires
   pub flips : r .flips ≡ b .flips
-  pub folded : Folded ts r room
+  pub folded : Folded ts r room′
+  pub grows : b .terms ≤ r .terms
+  pub rest : drop (termWidth * r .terms) room′ ≡ drop (termWidth * r .terms) room
 
 -- a fold of one term, which makes at most one more
-pub record TurnsOne (ts : List Term) (b r : Block) (room : List ℕ) : Type 0 where
-  pub turns : Turns ts b r room
+pub record TurnsOne (ts : List Term) (b r : Block) (room room′ : List ℕ) : Type 0 where
+  pub turns : Turns ts b r room room′
   pub more : r .terms ≤ b .terms + 1
 
 -- the three folds of cz: on the parity x with the constant a, on y with b, on their sum with the constants' sum
@@ -95,9 +101,19 @@ abbrev pub czTerms : ℕ → Bool → ℕ → Bool → List Term → List Term
 czTerms x a y b ts = addTerm (xor x y) (signed (a ⊕ b) 6) (addTerm y (signed b 2) (addTerm x (signed a 2) ts))
 
 -- only the rows change
-pub record Moves (rs : List Row) (b r : Block) (table names rows : List ℕ) : Type 0 where
-  pub joined : Joined rs r table names rows
+pub record Moves (rs : List Row) (b r : Block) (names rows table′ names′ rows′ : List ℕ) : Type 0 where
+  pub joined : Joined rs r table′ names′ rows′
   pub terms : r .terms ≡ b .terms
+  pub more : b .wires ≤ r .wires
+  pub behind : Behind r names rows names′ rows′
+
+-- the state now stands for p; it has no fewer wires and terms, and what the rooms hold behind these is as it was
+pub record Absorbs (p : Paper.Block) (b r : Block) (names rows room table′ names′ rows′ room′ : List ℕ) : Type 0 where
+  pub holds : Holds p r table′ names′ rows′ room′
+  pub more : b .wires ≤ r .wires
+  pub grows : b .terms ≤ r .terms
+  pub behind : Behind r names rows names′ rows′
+  pub rest : drop (termWidth * r .terms) room′ ≡ drop (termWidth * r .terms) room
 
 -- ---- gates
 

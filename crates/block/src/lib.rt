@@ -28,9 +28,8 @@ ghost use Rattle.parity.specs.View.{val};
 ghost use Rattle.gate.specs.Writing.{gateOf};
 ghost use Rattle.terms.specs.Terms.{termsOf};
 ghost use Rattle.rows.specs.Rows.{rowsOf};
-ghost use Rattle.join.specs.Tables.{Joins};
-ghost use Rattle.block.specs.View.{rowsAt, termsAt, blockAt, Holds, Rowed};
-ghost use Rattle.block.specs.Steps.{Empty, Resets, Enterable, Enters, EnterableTwo, EntersTwo, AskableTurn, Flips, Crosses, Turns, TurnsOne, Moves, Absorbable, Askable, turnOf, new, parityAt, czTerms, turnTaken, Held};
+ghost use Rattle.block.specs.View.{rowsAt, termsAt, blockAt, Rowed};
+ghost use Rattle.block.specs.Steps.{Empty, Enterable, Enters, EnterableTwo, EntersTwo, AskableTurn, Flips, Crosses, Turns, TurnsOne, Moves, Absorbs, Absorbable, Askable, turnOf, new, parityAt, czTerms, turnTaken, Held};
 
 // How many wires have joined; bit i of `flips` is the constant of local index i; how many terms there are.
 pub struct Block {
@@ -62,18 +61,10 @@ pub fn empty() -> Block
     }
 }
 
-// The block's wires leave the table, and a block starts anew.
-pub fn reset(b: Block, table: &mut [u32], names: &[u32]) -> Block
-    requires { ⌜ Joins (now table) (now names) (b .wires) ⌝ }
-    ensures { λ r. ⌜ Resets (now (table .exit)) (now (names .entry)) r ⌝ }
-{
-    join::leave(table, names, b.wires);
-    empty()
-}
-
 // ---- a wire joins
 
-// A wire that has not joined takes the next local index, and holds the parity of that index alone.
+// A wire that has not joined takes the next local index, and holds the parity of that index alone. Of the rows only the part up to its own is
+// lent, so that what lies behind is known to be as it was.
 fn fresh(b: Block, q: Wire, table: &mut [u32], names: &mut [u32], rows: &mut [u64]) -> Entered
     requires { ⌜ Enterable b (q .0) (now table) (now names) (now rows) ⌝ }
     requires { ⌜ getD (now table) (q .0) 0 ≡ 0 ⌝ }
@@ -81,9 +72,10 @@ fn fresh(b: Block, q: Wire, table: &mut [u32], names: &mut [u32], rows: &mut [u6
 {
     let n = b.wires;
     let next = n + 1;
+    let end = 2 * (next as usize);
     let flips = b.flips;
     join::enter(table, names, n, q);
-    rows::put(rows, n as usize, Parity::single(n));
+    rows::put(&mut rows[..end], n as usize, Parity::single(n));
     let block = Block {
         wires: next,
         flips,
@@ -146,10 +138,12 @@ pub fn fold_x(b: Block, i: Local) -> Block
 
 // cnot adds the control's parity and constant to the target's.
 pub fn fold_cnot(b: Block, c: Local, t: Local, rows: &mut [u64]) -> Block
-    requires { ⌜ (c .0 < maxColumns) × ((t .0 < maxColumns) × (maxColumns ≤ length (rowsOf (now rows)))) ⌝ }
+    requires { ⌜ (c .0 < b .wires) × (t .0 < b .wires) ⌝ }
+    requires { ⌜ (b .wires ≤ maxColumns) × (maxColumns ≤ length (rowsOf (now rows))) ⌝ }
     ensures { λ r. ⌜ Crosses b (c .0) (t .0) (bit (val (b .flips)) (c .0)) (now (rows .entry)) r (now (rows .exit)) ⌝ }
 {
-    rows::add(rows, c.0 as usize, t.0 as usize);
+    let end = 2 * (b.wires as usize);
+    rows::add(&mut rows[..end], c.0 as usize, t.0 as usize);
     Block {
         wires: b.wires,
         flips: b.flips.xor(Parity::single(t.0).kept(b.flips.has(c.0))),
@@ -160,7 +154,7 @@ pub fn fold_cnot(b: Block, c: Local, t: Local, rows: &mut [u64]) -> Block
 // A turn on a parity, negated by its constant.
 fn fold(b: Block, p: Parity, flips: bool, k: u8, room: &mut [u64]) -> Block
     requires { ⌜ b .terms < length (termsOf (now room)) ⌝ }
-    ensures { λ r. ⌜ TurnsOne (Fold.addTerm (val p) (Fold.signed flips k) (termsAt b (now (room .entry)))) b r (now (room .exit)) ⌝ }
+    ensures { λ r. ⌜ TurnsOne (Fold.addTerm (val p) (Fold.signed flips k) (termsAt b (now (room .entry)))) b r (now (room .entry)) (now (room .exit)) ⌝ }
 {
     let constants = b.flips;
     let terms = terms::add_term(room, b.terms, p, flips, k);
@@ -175,7 +169,7 @@ fn fold(b: Block, p: Parity, flips: bool, k: u8, room: &mut [u64]) -> Block
 pub fn fold_turn(b: Block, i: Local, k: u8, rows: &[u64], room: &mut [u64]) -> Block
     requires { ⌜ (i .0 < maxColumns) × (maxColumns ≤ length (rowsOf (now rows))) ⌝ }
     requires { ⌜ b .terms < length (termsOf (now room)) ⌝ }
-    ensures { λ r. ⌜ Turns (Fold.addTerm (getD (rowsOf (now (rows .entry))) (i .0) 0) (Fold.signed (bit (val (b .flips)) (i .0)) k) (termsAt b (now (room .entry)))) b r (now (room .exit)) ⌝ }
+    ensures { λ r. ⌜ Turns (Fold.addTerm (getD (rowsOf (now (rows .entry))) (i .0) 0) (Fold.signed (bit (val (b .flips)) (i .0)) k) (termsAt b (now (room .entry)))) b r (now (room .entry)) (now (room .exit)) ⌝ }
 {
     let p = rows::get(rows, i.0 as usize);
     let flips = b.flips.has(i.0);
@@ -186,7 +180,7 @@ pub fn fold_turn(b: Block, i: Local, k: u8, rows: &[u64], room: &mut [u64]) -> B
 pub fn fold_cz(b: Block, c: Local, t: Local, rows: &[u64], room: &mut [u64]) -> Block
     requires { ⌜ (c .0 < maxColumns) × ((t .0 < maxColumns) × (maxColumns ≤ length (rowsOf (now rows)))) ⌝ }
     requires { ⌜ b .terms + 3 ≤ length (termsOf (now room)) ⌝ }
-    ensures { λ r. ⌜ Turns (czTerms (getD (rowsOf (now (rows .entry))) (c .0) 0) (bit (val (b .flips)) (c .0)) (getD (rowsOf (now (rows .entry))) (t .0) 0) (bit (val (b .flips)) (t .0)) (termsAt b (now (room .entry)))) b r (now (room .exit)) ⌝ }
+    ensures { λ r. ⌜ Turns (czTerms (getD (rowsOf (now (rows .entry))) (c .0) 0) (bit (val (b .flips)) (c .0)) (getD (rowsOf (now (rows .entry))) (t .0) 0) (bit (val (b .flips)) (t .0)) (termsAt b (now (room .entry)))) b r (now (room .entry)) (now (room .exit)) ⌝ }
 {
     let x = rows::get(rows, c.0 as usize);
     let y = rows::get(rows, t.0 as usize);
@@ -201,7 +195,7 @@ pub fn fold_cz(b: Block, c: Local, t: Local, rows: &[u64], room: &mut [u64]) -> 
 
 fn absorb_x(b: Block, q: Wire, table: &mut [u32], names: &mut [u32], rows: &mut [u64]) -> Block
     requires { ⌜ Enterable b (q .0) (now table) (now names) (now rows) ⌝ }
-    ensures { λ r. ⌜ Moves (Fold.rowsBy (flip (q .0)) (Fold.entered (flip (q .0)) (rowsAt b (now (names .entry)) (now (rows .entry))))) b r (now (table .exit)) (now (names .exit)) (now (rows .exit)) ⌝ }
+    ensures { λ r. ⌜ Moves (Fold.rowsBy (flip (q .0)) (Fold.entered (flip (q .0)) (rowsAt b (now (names .entry)) (now (rows .entry))))) b r (now (names .entry)) (now (rows .entry)) (now (table .exit)) (now (names .exit)) (now (rows .exit)) ⌝ }
 {
     let e = enter(b, q, table, names, rows);
     let block = e.block;
@@ -218,7 +212,7 @@ fn absorb_cnot(
     rows: &mut [u64],
 ) -> Block
     requires { ⌜ EnterableTwo b (c .0) (t .0) (now table) (now names) (now rows) ⌝ }
-    ensures { λ r. ⌜ Moves (Fold.rowsBy (cnot (c .0) (t .0)) (Fold.entered (cnot (c .0) (t .0)) (rowsAt b (now (names .entry)) (now (rows .entry))))) b r (now (table .exit)) (now (names .exit)) (now (rows .exit)) ⌝ }
+    ensures { λ r. ⌜ Moves (Fold.rowsBy (cnot (c .0) (t .0)) (Fold.entered (cnot (c .0) (t .0)) (rowsAt b (now (names .entry)) (now (rows .entry))))) b r (now (names .entry)) (now (rows .entry)) (now (table .exit)) (now (names .exit)) (now (rows .exit)) ⌝ }
 {
     let e = enter_two(b, c, t, table, names, &mut *rows);
     let block = e.block;
@@ -238,7 +232,7 @@ fn absorb_turn(
 ) -> Block
     requires { ⌜ Enterable b (q .0) (now table) (now names) (now rows) ⌝ }
     requires { ⌜ b .terms < length (termsOf (now room)) ⌝ }
-    ensures { λ r. ⌜ Holds (Fold.absorb (phase k (q .0)) (blockAt b (now (names .entry)) (now (rows .entry)) (now (room .entry)))) r (now (table .exit)) (now (names .exit)) (now (rows .exit)) (now (room .exit)) ⌝ }
+    ensures { λ r. ⌜ Absorbs (Fold.absorb (phase k (q .0)) (blockAt b (now (names .entry)) (now (rows .entry)) (now (room .entry)))) b r (now (names .entry)) (now (rows .entry)) (now (room .entry)) (now (table .exit)) (now (names .exit)) (now (rows .exit)) (now (room .exit)) ⌝ }
 {
     let e = enter(b, q, table, names, &mut *rows);
     let block = e.block;
@@ -257,7 +251,7 @@ fn absorb_cz(
 ) -> Block
     requires { ⌜ EnterableTwo b (c .0) (t .0) (now table) (now names) (now rows) ⌝ }
     requires { ⌜ b .terms + 3 ≤ length (termsOf (now room)) ⌝ }
-    ensures { λ r. ⌜ Holds (Fold.absorb (cz (c .0) (t .0)) (blockAt b (now (names .entry)) (now (rows .entry)) (now (room .entry)))) r (now (table .exit)) (now (names .exit)) (now (rows .exit)) (now (room .exit)) ⌝ }
+    ensures { λ r. ⌜ Absorbs (Fold.absorb (cz (c .0) (t .0)) (blockAt b (now (names .entry)) (now (rows .entry)) (now (room .entry)))) b r (now (names .entry)) (now (rows .entry)) (now (room .entry)) (now (table .exit)) (now (names .exit)) (now (rows .exit)) (now (room .exit)) ⌝ }
 {
     let e = enter_two(b, c, t, table, names, &mut *rows);
     let block = e.block;
@@ -295,7 +289,7 @@ pub fn absorb(
     room: &mut [u64],
 ) -> Block
     requires { ⌜ Absorbable b g (now table) (now names) (now rows) (now room) ⌝ }
-    ensures { λ r. ⌜ Holds (Fold.absorb (op (gateOf g)) (blockAt b (now (names .entry)) (now (rows .entry)) (now (room .entry)))) r (now (table .exit)) (now (names .exit)) (now (rows .exit)) (now (room .exit)) ⌝ }
+    ensures { λ r. ⌜ Absorbs (Fold.absorb (op (gateOf g)) (blockAt b (now (names .entry)) (now (rows .entry)) (now (room .entry)))) b r (now (names .entry)) (now (rows .entry)) (now (room .entry)) (now (table .exit)) (now (names .exit)) (now (rows .exit)) (now (room .exit)) ⌝ }
 {
     let code = g.code;
     let first = Wire(g.first);

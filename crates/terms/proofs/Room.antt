@@ -3,14 +3,16 @@
 --     room-enough    a term's three numbers stand in the room
 --     room-get       they are the term
 --     room-put       storing three numbers stores the term
-use mathlib.Core.Path.{_≡_, refl, ap}
+--     room-stores    and leaves what is behind it
+use mathlib.Core.Path.{_≡_, refl, ap, _∙_}
 use mathlib.Core.List.{List, [], _∷_, _++_}
 use Prim.Native.Nat.{ℕ, zero, suc, _+_, _-_, _*_, _/_, _^_, _≤_, _<_}
 use native.Mathlib.Nat.{not-suc-le-zero, le-of-suc-le-suc}
 use native.Mathlib.Omega.{arith}
 use lib.ListN.{length, getD, set, take, drop}
+use lib.Seq.{drop-set-lt}
 use Rattle.rules.specs.Fold.{Term}
-use Rattle.terms.specs.Terms.{termsOf, noTerm}
+use Rattle.terms.specs.Terms.{termsOf, noTerm, Stores}
 
 pub room-length : (xs : List ℕ) → length (termsOf xs) ≡ length xs / 3
 unfolding termsOf
@@ -49,6 +51,15 @@ room-put (a ∷ b ∷ c ∷ xs) zero lo hi k l = refl
 room-put (a ∷ b ∷ c ∷ xs) (suc i) lo hi k l =
     let e = after i in
     rw (e .1 .1, e .1 .0, e .0) (ap (λ (ts : List Term). record { parity = b * 2 ^ 64 + a; turn = c } ∷ ts) (room-put xs i lo hi k (le-of-suc-le-suc l)))
+
+pub room-stores : (xs : List ℕ) (i lo hi k : ℕ) → i < length (termsOf xs)
+    → Stores i (record { parity = hi * 2 ^ 64 + lo; turn = k }) xs (set (set (set xs (3 * i) lo) (3 * i + 1) hi) (3 * i + 2) k)
+room-stores xs i lo hi k l = record {
+  terms = room-put xs i lo hi k l;
+  rest = λ n h.
+      drop-set-lt (3 * n) (set (set xs (3 * i) lo) (3 * i + 1) hi) (3 * i + 2) k (omega arith)
+      ∙ drop-set-lt (3 * n) (set xs (3 * i) lo) (3 * i + 1) hi (omega arith) ∙ drop-set-lt (3 * n) xs (3 * i) lo (omega arith);
+}
 
 -- ---- parts of a room that begin and end between terms
 

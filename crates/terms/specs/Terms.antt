@@ -2,9 +2,10 @@
 use mathlib.Core.Path.{_≡_}
 use mathlib.Core.Bool.{true, false, cond}
 use mathlib.Core.List.{List, [], _∷_, _++_}
-use Prim.Native.Nat.{ℕ, zero, suc, _+_, _-_, _*_, _^_}
+use Prim.Native.Nat.{ℕ, zero, suc, _+_, _-_, _*_, _^_, _<_}
 use lib.ListN.{set, getD, take, drop, length}
 use lib.Dec.{eqb}
+use Rattle.rules.specs.Limits.{termWidth}
 use Rattle.rules.specs.Fold.{Term}
 use Rattle.rules.specs.Walk.{side}
 use Rattle.rules.specs.Order.{Shuffled}
@@ -40,6 +41,16 @@ pub record Begins (new : List Term) (r end : ℕ) (before after : List Term) : T
   pub many : length new ≡ r
   pub front : take r after ≡ new
   pub rest : drop end after ≡ drop end before
+
+-- term i is stored; the numbers of the room behind it are as they were
+pub record Stores (i : ℕ) (t : Term) (room room′ : List ℕ) : Type 0 where
+  pub terms : termsOf room′ ≡ set (termsOf room) i t
+  pub rest : (n : ℕ) → i < n → drop (termWidth * n) room′ ≡ drop (termWidth * n) room
+
+-- a room now begins with `new`, which is r terms; the numbers behind them are as they were
+pub record Adds (new : List Term) (r : ℕ) (room room′ : List ℕ) : Type 0 where
+  pub begins : Begins new r r (termsOf room) (termsOf room′)
+  pub rest : drop (termWidth * r) room′ ≡ drop (termWidth * r) room
 
 -- terms split by a column: the r terms with it first, in order, then those without, in some order
 pub record Sides (column : ℕ) (before after : List Term) (r : ℕ) : Type 0 where

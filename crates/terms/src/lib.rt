@@ -3,11 +3,11 @@ use parity::Parity;
 ghost use mathlib.Core.Path.{_≡_};
 ghost use mathlib.Core.Bool.{cond};
 ghost use Prim.Native.Nat.{_<_, _≤_};
-ghost use lib.ListN.{length, take, getD, set};
+ghost use lib.ListN.{length, take, getD};
 ghost use Rattle.rules.specs.Fold.{signed, addTerm};
 ghost use Rattle.rules.specs.Walk.{nonzero, crossTerms};
 ghost use Rattle.parity.specs.View.{val};
-ghost use Rattle.terms.specs.Terms.{termsOf, termOf, noTerm, exchanged, place, Begins, Sides, SplitAt};
+ghost use Rattle.terms.specs.Terms.{termsOf, termOf, noTerm, exchanged, place, Begins, Stores, Adds, Sides, SplitAt};
 
 // A term as the code holds it.
 pub struct Entry {
@@ -31,7 +31,7 @@ pub fn get(room: &[u64], i: usize) -> Entry
 
 pub fn put(room: &mut [u64], i: usize, e: Entry)
     requires { ⌜ i < length (termsOf (now room)) ⌝ }
-    ensures { λ r. ⌜ termsOf (now (room .exit)) ≡ set (termsOf (now (room .entry))) i (termOf e) ⌝ }
+    ensures { λ r. ⌜ Stores i (termOf e) (now (room .entry)) (now (room .exit)) ⌝ }
 {
     let at = 3 * i;
     room[at] = e.parity.lo;
@@ -70,7 +70,7 @@ pub fn find(room: &[u64], count: usize, p: Parity) -> usize
 // Folds a turn onto the parity p, negated if the wire's constant is true; how many terms there are then. A term that becomes 0 stays.
 pub fn add_term(room: &mut [u64], count: usize, p: Parity, flips: bool, k: u8) -> usize
     requires { ⌜ count < length (termsOf (now room)) ⌝ }
-    ensures { λ r. ⌜ Begins (addTerm (val p) (signed flips k) (take count (termsOf (now (room .entry))))) r r (termsOf (now (room .entry))) (termsOf (now (room .exit))) ⌝ }
+    ensures { λ r. ⌜ Adds (addTerm (val p) (signed flips k) (take count (termsOf (now (room .entry))))) r (now (room .entry)) (now (room .exit)) ⌝ }
 {
     let added = turn::signed(flips, k);
     let at = find(&*room, count, p);

@@ -2,7 +2,7 @@
 use Prim.Native.Nat.{_≤_}
 use native.Mathlib.Omega.{arith}
 use Rattle.rules.specs.Fold.{entered}
-use Rattle.block.proofs.Folding.{flip-holds, cnot-holds}
+use Rattle.block.proofs.Folding.{flip-absorbs, cnot-absorbs}
 use Rattle.block.proofs.Codes.{op-x, op-turn, op-cnot, op-cz, two-wires}
 use borrow.Author.Needs.{needs}
 use Rattle.block.proofs.absorb.Statement.{statement}
@@ -27,7 +27,7 @@ same-length-3 c = search needs
 returns : tie.Need-returns
 returns c =
     let s = c .before .before .before .before .before .before .before .before .before .before .before .before .before .before .before in
-    rw (op-x (s .args .g) (c .before .before .before .before .before .before .before .before .before .before .if1 .taken)) (flip-holds _ _ _ _ _ _ _ _ _ (c .before .before .before .before .before .before .absorb-x .ensures) (s .pre .sound .terms-are))
+    rw (op-x (s .args .g) (c .before .before .before .before .before .before .before .before .before .before .if1 .taken)) (flip-absorbs _ _ _ _ _ _ _ _ _ _ _ (c .before .before .before .before .before .before .absorb-x .ensures) (s .pre .sound .terms-are))
 
 absorb-cnot-requires : tie.Need-absorb-cnot-requires
 unfolding entered
@@ -53,7 +53,7 @@ same-length-6 c = search needs
 returns-2 : tie.Need-returns-2
 returns-2 c =
     let s = c .before .before .before .before .before .before .before .before .before .before .before .before .before .before .before .before in
-    rw (op-cnot (s .args .g) (c .before .before .before .before .before .before .before .before .before .before .if2 .taken)) (cnot-holds _ _ _ _ _ _ _ _ _ _ (c .before .before .before .before .before .before .absorb-cnot .ensures) (s .pre .sound .terms-are))
+    rw (op-cnot (s .args .g) (c .before .before .before .before .before .before .before .before .before .before .if2 .taken)) (cnot-absorbs _ _ _ _ _ _ _ _ _ _ _ _ (c .before .before .before .before .before .before .absorb-cnot .ensures) (s .pre .sound .terms-are))
 
 absorb-cz-requires : tie.Need-absorb-cz-requires
 unfolding entered

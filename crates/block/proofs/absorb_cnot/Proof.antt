@@ -1,7 +1,9 @@
 -- `block::absorb_cnot` meets its contract.
 use mathlib.Core.Path.{_∙_}
+use native.Mathlib.Omega.{arith}
 use Rattle.rules.specs.Fold.{entered}
 use Rattle.block.proofs.Folding.{cross-joined}
+use Rattle.block.proofs.Parts.{behind-same}
 use borrow.Author.Needs.{needs}
 use Rattle.block.proofs.absorb_cnot.Statement.{statement}
 use Rattle.block.proofs.absorb_cnot.Tie as tie
@@ -29,6 +31,8 @@ returns c =
     record {
       joined = cross-joined (e .joined) _ _ _ _ _ _ (e .control) (e .target) (e .control-name) (e .target-name) f;
       terms = f .flips .terms ∙ e .terms;
+      more = omega (arith, e .more, f .flips .wires);
+      behind = behind-same (c .before .before .before .before .before .before .before .before .before .before .before .before .before .enter-two .result .block) _ _ _ _ _ (f .flips .wires) (record { names-rest = e .behind .names-rest; rows-rest = f .rest ∙ e .behind .rows-rest });
     }
 
 pub absorb-cnot-spec : {M : Type 1} → statement M

@@ -1,5 +1,5 @@
 -- `block::absorb_cz` meets its contract.
-use Rattle.block.proofs.Folding.{cz-holds}
+use Rattle.block.proofs.Folding.{cz-absorbs}
 use borrow.Author.Needs.{needs}
 use Rattle.block.proofs.absorb_cz.Statement.{statement}
 use Rattle.block.proofs.absorb_cz.Tie as tie
@@ -25,7 +25,7 @@ same-length-4 c = search needs
 returns : tie.Need-returns
 returns c =
     let e = c .before .before .before .before .before .before .before .before .before .before .before .before .before .before .enter-two .ensures in
-    cz-holds _ _ _ _ _ _ _ _ _ (e .terms) _ _ _ _ (e .joined) (e .control) (e .target) (e .control-name) (e .target-name) (c .before .before .fold-cz .ensures)
+    cz-absorbs _ _ _ _ _ _ _ _ _ _ _ (e .terms) (e .more) (e .behind) _ _ _ _ (e .joined) (e .control) (e .target) (e .control-name) (e .target-name) (c .before .before .fold-cz .ensures)
 
 pub absorb-cz-spec : {M : Type 1} → statement M
 absorb-cz-spec =

@@ -1,5 +1,5 @@
 -- `block::absorb_turn` meets its contract.
-use Rattle.block.proofs.Folding.{turn-holds}
+use Rattle.block.proofs.Folding.{turn-absorbs}
 use borrow.Author.Needs.{needs}
 use Rattle.block.proofs.absorb_turn.Statement.{statement}
 use Rattle.block.proofs.absorb_turn.Tie as tie
@@ -25,7 +25,7 @@ same-length-4 c = search needs
 returns : tie.Need-returns
 returns c =
     let e = c .before .before .before .before .before .before .before .before .before .before .before .before .before .enter .ensures in
-    turn-holds _ _ _ _ _ _ _ _ _ (e .terms) _ _ _ (e .joined) (e .at) (e .name) (c .before .before .fold-turn .ensures)
+    turn-absorbs _ _ _ _ _ _ _ _ _ _ _ (e .terms) (e .more) (e .behind) _ _ _ (e .joined) (e .at) (e .name) (c .before .before .fold-turn .ensures)
 
 pub absorb-turn-spec : {M : Type 1} → statement M
 absorb-turn-spec =

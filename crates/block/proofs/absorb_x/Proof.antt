@@ -1,7 +1,9 @@
 -- `block::absorb_x` meets its contract.
 use mathlib.Core.Path.{_∙_}
+use native.Mathlib.Omega.{arith}
 use Rattle.rules.specs.Fold.{entered}
 use Rattle.block.proofs.Folding.{flip-joined}
+use Rattle.block.proofs.Parts.{behind-same}
 use borrow.Author.Needs.{needs}
 use Rattle.block.proofs.absorb_x.Statement.{statement}
 use Rattle.block.proofs.absorb_x.Tie as tie
@@ -25,7 +27,7 @@ returns : tie.Need-returns
 unfolding entered
 returns c =
     let e = c .before .before .before .before .before .before .before .before .before .enter .ensures in
-    record { joined = flip-joined (e .joined) _ _ _ (e .at) (e .name) (c .fold-x .ensures); terms = c .fold-x .ensures .terms ∙ e .terms }
+    record { joined = flip-joined (e .joined) _ _ _ (e .at) (e .name) (c .fold-x .ensures); terms = c .fold-x .ensures .terms ∙ e .terms; more = omega (arith, e .more, c .fold-x .ensures .wires); behind = behind-same _ _ _ _ _ _ (c .fold-x .ensures .wires) (e .behind) }
 
 pub absorb-x-spec : {M : Type 1} → statement M
 absorb-x-spec =

@@ -46,6 +46,7 @@ returns-2 c =
       kept = λ i l. refl;
       at = k .0;
       name = k .1;
+      behind = record { names-rest = refl; rows-rest = refl };
     }
 
 pub enter-spec : {M : Type 1} → statement M

@@ -3,6 +3,7 @@ use mathlib.Core.Path.{_∙_}
 use native.Mathlib.Nat.{le-trans, lt-of-lt-of-le}
 use native.Mathlib.Omega.{arith}
 use Rattle.block.proofs.Entering.{join-grows, rowed-is}
+use Rattle.block.proofs.Parts.{behind-on}
 use borrow.Author.Needs.{needs}
 use Rattle.block.proofs.enter_two.Statement.{statement}
 use Rattle.block.proofs.enter_two.Tie as tie
@@ -34,10 +35,12 @@ returns c =
     record {
       joined = rw (x .joined .same) at (y .joined);
       terms = y .terms ∙ x .terms;
+      more = le-trans (x .more) (y .more);
       control = lt-of-lt-of-le (x .at) (y .more);
       target = y .at;
       control-name = y .kept _ (x .at) ∙ x .name;
       target-name = y .name;
+      behind = behind-on _ _ _ _ _ _ _ _ (y .more) (x .behind) (y .behind);
     }
 
 pub enter-two-spec : {M : Type 1} → statement M

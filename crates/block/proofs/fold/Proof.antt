@@ -1,6 +1,7 @@
 -- `block::fold` meets its contract.
 use mathlib.Core.Path.{refl}
-use Rattle.block.proofs.Folding.{folded-is, folded-more}
+use native.Mathlib.Omega.{arith}
+use Rattle.block.proofs.Folding.{folds-one}
 use borrow.Author.Needs.{needs}
 use Rattle.block.proofs.fold.Statement.{statement}
 use Rattle.block.proofs.fold.Tie as tie
@@ -12,10 +13,7 @@ same-length : tie.Need-same-length
 same-length c = search needs
 
 returns : tie.Need-returns
-returns c = record {
-  turns = record { wires = refl; flips = refl; folded = folded-is _ _ _ _ _ _ (c .before .before .add-term .ensures) };
-  more = folded-more _ _ _ _ _ _ (c .before .before .add-term .ensures);
-}
+returns c = folds-one _ _ _ _ _ _ (omega arith) (c .before .before .add-term .ensures) refl refl
 
 pub fold-spec : {M : Type 1} → statement M
 fold-spec = tie.close (tie.spec add-term-requires same-length returns)

@@ -69,7 +69,7 @@ returns c =
     let b : Bool = t .has2 .result in
     rw (x .get .ensures, y .get2 .ensures, s .has .ensures, t .has2 .ensures) at
     (cz-turns (val (x .get .result)) (val (y .get2 .result)) (val (sum .xor .result)) a b (not (Bool·beq a b)) _ _ _ _ _ _ _ _
-    (first .fold .ensures .turns) (second .fold2 .ensures .turns) (third .fold3 .ensures .turns) (sum .xor .ensures) (differ-is a b))
+    (first .fold .ensures) (second .fold2 .ensures) (third .fold3 .ensures) (sum .xor .ensures) (differ-is a b))
 
 pub fold-cz-spec : {M : Type 1} → statement M
 fold-cz-spec =

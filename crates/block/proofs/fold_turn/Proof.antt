@@ -21,7 +21,7 @@ same-length : tie.Need-same-length
 same-length c = search needs
 
 returns : tie.Need-returns
-returns c = turn-turns _ _ (c .before .before .before .before .has .result) _ _ _ _ _ _ (c .before .before .before .before .before .get .ensures) (c .before .before .before .before .has .ensures) (c .before .before .fold .ensures .turns)
+returns c = turn-turns _ _ (c .before .before .before .before .has .result) _ _ _ _ _ _ _ (c .before .before .before .before .before .get .ensures) (c .before .before .before .before .has .ensures) (c .before .before .fold .ensures .turns)
 
 pub fold-turn-spec : {M : Type 1} → statement M
 fold-turn-spec =

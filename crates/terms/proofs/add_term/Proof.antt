@@ -49,13 +49,22 @@ sign c = c .signed .ensures
 returns : tie.Need-returns
 returns c =
     let sum = c .before .before .before .before .fold .ensures ∙ ap (λ (j : ℕ). (c .before .before .before .before .before .before .get .result .turn % 8 + j) % 8) (sign (c .before .before .before .before .before .before .before .before .before .before .before)) in
-    rw (c .before .before .put .ensures) (fold-met _ _ _ _ _ (c .before .before .before .before .before .before .before .before .before .find .ensures) _ _ (c .before .before .before .before .before .before .before .before .if1 .taken) (omega arith) (c .before .before .before .before .before .before .get .ensures) sum)
+    let e = c .before .before .put .ensures in
+    record {
+      begins = rw (e .terms) (fold-met _ _ _ _ _ (c .before .before .before .before .before .before .before .before .before .find .ensures) _ _ (c .before .before .before .before .before .before .before .before .if1 .taken) (omega arith) (c .before .before .before .before .before .before .get .ensures) sum);
+      rest = e .rest (c .before .before .before .before .before .before .before .before .before .before .before .before .before .args .count) (omega arith);
+    }
 
 same-length-2 : tie.Need-same-length-2
 same-length-2 c = search needs
 
 returns-2 : tie.Need-returns-2
-returns-2 c = rw (c .before .before .put2 .ensures) (fold-new _ _ _ _ _ (c .before .before .before .before .before .find .ensures) _ (c .before .before .before .before .if1 .left) (c .before .before .before .before .before .before .before .before .before .pre) (sign (c .before .before .before .before .before .before .before)))
+returns-2 c =
+    let e = c .before .before .put2 .ensures in
+    record {
+      begins = rw (e .terms) (fold-new _ _ _ _ _ (c .before .before .before .before .before .find .ensures) _ (c .before .before .before .before .if1 .left) (c .before .before .before .before .before .before .before .before .before .pre) (sign (c .before .before .before .before .before .before .before)));
+      rest = e .rest (c .before .before .before .before .before .before .before .before .before .args .count + 1) (omega arith);
+    }
 
 pub add-term-spec : {M : Type 1} → statement M
 add-term-spec =

@@ -14,7 +14,7 @@ put-requires : tie.Need-put-requires
 put-requires c κs = search needs
 
 put-requires-2 : tie.Need-put-requires-2
-put-requires-2 c κs = rw (c .before .before .before .put .ensures) (simp length-set (c .before .before .before .before .before .before .before .before .before .before .pre .1))
+put-requires-2 c κs = rw (c .before .before .before .put .ensures .terms) (simp length-set (c .before .before .before .before .before .before .before .before .before .before .pre .1))
 
 same-length : tie.Need-same-length
 same-length c = search needs
@@ -23,8 +23,8 @@ returns : tie.Need-returns
 returns c =
     let x = c .before .before .before .before .before .before .before .before .before .before .get .ensures in
     let y = c .before .before .before .before .before .before .before .before .get2 .ensures in
-    let p = c .before .before .before .before .before .before .put .ensures in
-    let q = c .before .before .put2 .ensures in
+    let p = c .before .before .before .before .before .before .put .ensures .terms in
+    let q = c .before .before .put2 .ensures .terms in
     cc
 
 pub exchange-spec : {M : Type 1} → statement M

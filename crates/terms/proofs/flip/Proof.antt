@@ -61,7 +61,7 @@ loop-again c =
     let l = c .before .before .before .before .before .before .before .before .before .before .loop in (
       omega arith,
       c .before .before .put .kept .0 ∙ l .inv .1,
-      c .before .before .put .ensures ∙ cross-turn _ _ _ _ _ _ _ (l .inv .2) (omega arith) (c .before .before .before .before .before .before .before .get .ensures) (crosses (c .before .before .before .before)),
+      c .before .before .put .ensures .terms ∙ cross-turn _ _ _ _ _ _ _ (l .inv .2) (omega arith) (c .before .before .before .before .before .before .before .get .ensures) (crosses (c .before .before .before .before)),
     )
 
 same-length : tie.Need-same-length Inv-loop μ-loop

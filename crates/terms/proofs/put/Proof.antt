@@ -3,7 +3,7 @@ use Prim.Native.Nat.{_+_, _*_, _<_}
 use native.Mathlib.Omega.{arith}
 use borrow.Author.Needs.{needs}
 use lib.ListN.{length, length-set}
-use Rattle.terms.proofs.Room.{room-enough, room-put}
+use Rattle.terms.proofs.Room.{room-enough, room-stores}
 use Rattle.terms.proofs.put.Statement.{statement}
 use Rattle.terms.proofs.put.Tie as tie
 
@@ -41,7 +41,7 @@ same-length : tie.Need-same-length
 same-length c = search needs
 
 returns : tie.Need-returns
-returns c = room-put _ _ _ _ _ (c .pre)
+returns c = room-stores _ _ _ _ _ (c .pre)
 
 pub put-spec : {M : Type 1} → statement M
 put-spec =

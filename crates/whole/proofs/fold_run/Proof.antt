@@ -75,7 +75,7 @@ loop-again : tie.Need-loop-again Inv-loop μ-loop
 loop-again c =
     let h = (c .before .before .before .before .before .before .before .before .before .before .before .before .before .before .before .before .before .before .before .before) .loop .inv in
     let k = (c .before .before .before .before .before .before .before .before) .absorb .kept in
-    (omega arith, next ((c .before .before .before .before .before .before .before .before .before .before .before .before .before .before .before .before .before .before .before .before .before .before .before .before .before .before) .args .list .now) ((c .before .before .before .before .before .before .before .before .before .before .before .before .before .before .before .before .before .before .before .before) .loop .table) ((c .before .before .before .before .before .before .before .before .before .before .before .before .before .before .before .before .before .before .before .before) .loop .names) ((c .before .before .before .before .before .before .before .before .before .before .before .before .before .before .before .before .before .before .before .before) .loop .rows) ((c .before .before .before .before .before .before .before .before .before .before .before .before .before .before .before .before .before .before .before .before) .loop .room) ((c .before .before .before .before .before .before .before .before .before .before .before .before .before .before .before .before .before .before .before .before) .loop .i) ((c .before .before .before .before .before .before .before .before .before .before .before .before .before .before .before .before .before .before) .read .result) ((c .before .before .before .before .before .before .before .before .before .before .before .before .before .before .before .before .before .before .before .before) .loop .b) ((c .before .before .before .before .before .before .before .before) .absorb .result) _ _ _ _ ((c .before .before .before .before .before .before .before .before .before .before .before .before .before .before .before .before .before .before) .read .ensures) (h .1) ((c .before .before .before .before .before .before .before .before) .absorb .ensures), k .1 .1 .0 ∙ h .2, k .1 .1 .1 .0 ∙ h .3, k .1 .1 .1 .1 .0 ∙ h .4, k .1 .1 .1 .1 .1 .0 ∙ h .5)
+    (omega arith, next ((c .before .before .before .before .before .before .before .before .before .before .before .before .before .before .before .before .before .before .before .before .before .before .before .before .before .before) .args .list .now) ((c .before .before .before .before .before .before .before .before .before .before .before .before .before .before .before .before .before .before .before .before) .loop .table) ((c .before .before .before .before .before .before .before .before .before .before .before .before .before .before .before .before .before .before .before .before) .loop .names) ((c .before .before .before .before .before .before .before .before .before .before .before .before .before .before .before .before .before .before .before .before) .loop .rows) ((c .before .before .before .before .before .before .before .before .before .before .before .before .before .before .before .before .before .before .before .before) .loop .room) ((c .before .before .before .before .before .before .before .before .before .before .before .before .before .before .before .before .before .before .before .before) .loop .i) ((c .before .before .before .before .before .before .before .before .before .before .before .before .before .before .before .before .before .before) .read .result) ((c .before .before .before .before .before .before .before .before .before .before .before .before .before .before .before .before .before .before .before .before) .loop .b) ((c .before .before .before .before .before .before .before .before) .absorb .result) _ _ _ _ ((c .before .before .before .before .before .before .before .before .before .before .before .before .before .before .before .before .before .before) .read .ensures) (h .1) ((c .before .before .before .before .before .before .before .before) .absorb .ensures .holds), k .1 .1 .0 ∙ h .2, k .1 .1 .1 .0 ∙ h .3, k .1 .1 .1 .1 .0 ∙ h .4, k .1 .1 .1 .1 .1 .0 ∙ h .5)
 
 same-length-5 : tie.Need-same-length-5 Inv-loop μ-loop
 same-length-5 c = (c .before) .loop .inv .2
