@@ -1,8 +1,8 @@
 -- One turn of each loop, over plain lists: the AND and the OR over a set, the count of ones, and the scan over the candidates.
 use mathlib.Core.Path.{_≡_, refl, sym, ap, ap₂, _∙_}
-use mathlib.Core.Bool.{Bool, true, false, not, _&&_, _||_, cond, true≢false, false≢true}
+use mathlib.Core.Bool.{Bool, true, false, _&&_, _||_, cond, true≢false, false≢true}
 use mathlib.Core.List.{List, [], _∷_}
-use Prim.Native.Nat.{ℕ, zero, suc, _+_, _-_, _^_, _≤_, _<_, max}
+use Prim.Native.Nat.{ℕ, suc, _+_, _-_, _^_, _≤_, _<_, max}
 use native.Mathlib.Nat.{lt-of-not-le, le-of-suc-le-suc, not-suc-le-zero}
 use native.Mathlib.Numerals.{add-one}
 use native.Mathlib.Omega.{arith}
@@ -101,6 +101,16 @@ agreed-is ts cands some all apart both r l hs ha e f g =
     from true false k h = (refl, refl)
     from false true k h = absurd (false≢true (k refl))
     from false false k h = absurd (true≢false h)
+
+-- one parity agrees with itself
+pub agreed-one : (ts : List Term) (cands : ℕ) → length ts ≡ 1 → Agreed ts cands cands
+unfolding every any
+agreed-one [] cands e = absurd (omega arith)
+agreed-one (t ∷ []) cands e = record {
+  fits = λ i h. (h, agreed-score i (t ∷ []) (omega arith) (split (bit (t .parity) i) (λ f. rw f) (λ f. rw f)));
+  others = λ i h k. absurd (true≢false (sym h ∙ k));
+}
+agreed-one (t ∷ u ∷ ts) cands e = absurd (omega arith)
 
 -- ---- the ones, front to back
 

@@ -2,7 +2,7 @@
 use mathlib.Core.Path.{_≡_}
 use mathlib.Core.Bool.{true, false}
 use mathlib.Core.List.{List}
-use Prim.Native.Nat.{ℕ, _<_, _^_}
+use Prim.Native.Nat.{ℕ, _+_, _≤_, _<_, _^_}
 use lib.ListN.{length}
 use Rattle.rules.specs.Bit.{bit}
 use Rattle.rules.specs.Fold.{Term}
@@ -17,6 +17,11 @@ pairOf k = (k .column, k .score)
 pub record Agreed (ts : List Term) (cands r : ℕ) : Type 0 where
   pub fits : (i : ℕ) → bit r i ≡ true → (bit cands i ≡ true) × (score i ts ≡ length ts)
   pub others : (i : ℕ) → bit cands i ≡ true → bit r i ≡ false → score i ts < length ts
+
+-- r has the candidates on which all parities but one agree; of those on which all agree nothing is asked
+pub record Nearly (ts : List Term) (cands r : ℕ) : Type 0 where
+  pub fits : (i : ℕ) → bit r i ≡ true → (bit cands i ≡ true) × (length ts ≤ score i ts + 1)
+  pub others : (i : ℕ) → bit cands i ≡ true → bit r i ≡ false → score i ts < length ts → score i ts + 1 < length ts
 
 -- r is the best column, over any number of columns that has room for the candidates
 pub record Best (ts : List Term) (cands r : ℕ) : Type 0 where

@@ -7,7 +7,7 @@ ghost use lib.ListN.{length};
 ghost use Rattle.rules.specs.Walk.{side, beats};
 ghost use Rattle.parity.specs.View.{val};
 ghost use Rattle.terms.specs.Terms.{termsOf};
-ghost use Rattle.column.specs.Choice.{pairOf, Agreed, Best};
+ghost use Rattle.column.specs.Choice.{pairOf, Agreed, Nearly, Best};
 
 // The best column so far, and its score.
 pub struct Kept {
@@ -15,12 +15,15 @@ pub struct Kept {
     pub score: usize,
 }
 
-// The candidates on which all parities agree, by one AND and one OR over the set.
+// The candidates on which all parities agree, by one AND and one OR over the set. One parity agrees with itself, so it isn't even read.
 pub fn agreed(set: &[u64], cands: Parity) -> Parity
     requires { ⌜ 0 < length (termsOf (now set)) ⌝ }
     ensures { λ r. ⌜ Agreed (termsOf (now (set .entry))) (val cands) (val r) ⌝ }
 {
     let count = set.len() / 3;
+    if count == 1 {
+        return cands;
+    }
     let first = terms::get(set, 0);
     let mut every = first.parity;
     let mut some = first.parity;
@@ -32,6 +35,28 @@ pub fn agreed(set: &[u64], cands: Parity) -> Parity
         i += 1;
     }
     cands.xor(cands.and(some.xor(every)))
+}
+
+// The candidates on which all parities but one agree: `some` and `two` have the columns of at least one and of at least two parities, `every` and
+// `most` the candidates that none and that at most one lacks.
+pub fn nearly(set: &[u64], cands: Parity) -> Parity
+    ensures { λ r. ⌜ Nearly (termsOf (now (set .entry))) (val cands) (val r) ⌝ }
+{
+    let count = set.len() / 3;
+    let mut some = Parity::zero();
+    let mut two = Parity::zero();
+    let mut every = cands;
+    let mut most = cands;
+    let mut i = 0;
+    while i < count {
+        let e = terms::get(set, i);
+        two = two.or(some.and(e.parity));
+        some = some.or(e.parity);
+        most = every.or(most.and(e.parity));
+        every = every.and(e.parity);
+        i += 1;
+    }
+    most.xor(every).or(cands.and(some.xor(two)))
 }
 
 // How many of the terms have a column.
@@ -84,15 +109,19 @@ pub fn best_counted(set: &[u64], cands: Parity) -> u32
     kept.column
 }
 
-// A column on which all parities agree has the largest score there is, so the highest of these wins, and nothing is counted.
+// A column on which all parities agree has the largest score there is, and where there is none, one on which all but one agree: the highest of
+// these wins, and nothing is counted.
 pub fn best_column(set: &[u64], cands: Parity) -> u32
     requires { ⌜ 0 < length (termsOf (now set)) ⌝ }
     ensures { λ r. ⌜ Best (termsOf (now (set .entry))) (val cands) r ⌝ }
 {
     let whole = agreed(set, cands);
-    if whole.is_zero() {
-        best_counted(set, cands)
-    } else {
-        whole.highest()
+    if !whole.is_zero() {
+        return whole.highest();
     }
+    let near = nearly(set, cands);
+    if !near.is_zero() {
+        return near.highest();
+    }
+    best_counted(set, cands)
 }

@@ -115,7 +115,7 @@ module _ (names : List ℕ) (whole : List Step) (p₀ p : Place) (w : Bool) (h :
     pub walk-lighter : weight (length names) (stack q) < weight (length names) (stack p)
     walk-lighter = omega (arith, next-lighter (length names) (stack p) some (h .going t .standing .stairs), weight-stacked (length names) (s .stack))
 
-    pub walk-next : 129 ≤ length (q .slots) → length (q .rows) ≡ length names → Walked names whole p₀ q v
+    pub walk-next : length names + 1 ≤ length (q .slots) → length (q .rows) ≡ length names → Walked names whole p₀ q v
     walk-next wide many =
         let g = h .going t in
         let ss : List Step = nextOf (length names) (stack p) .steps in
@@ -178,7 +178,7 @@ walk-end names whole p₀ p w h e =
 
 -- ---- its beginning: one node, which has all columns and all terms
 
-module _ (names : List ℕ) (n : ℕ) (k : length names ≡ n) (ss old : List Slot) (c : Parity) (e : ss ≡ set old 0 (first c)) (wide : 129 ≤ length old) (v : val c ≡ 2 ^ n - 1)
+module _ (names : List ℕ) (n : ℕ) (k : length names ≡ n) (ss old : List Slot) (c : Parity) (e : ss ≡ set old 0 (first c)) (wide : length names + 1 ≤ length old) (v : val c ≡ 2 ^ n - 1)
     (ts : List Term) (end : ℕ) (f : end ≡ length ts) where
   first-slot : first c ≡ getD ss 0 noSlot
   first-slot = sym (ap (λ (l : List Slot). getD l 0 noSlot) e ∙ getD-set-same old 0 (first c) noSlot (omega arith))

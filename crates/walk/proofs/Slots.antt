@@ -61,5 +61,5 @@ slot-put (a ∷ b ∷ c ∷ d ∷ e ∷ xs) (suc i) s l =
     (ap (λ (ss : List Slot). record { cands = record { lo = a; hi = b }; target = c; owed = d; start = e } ∷ ss) (slot-put xs i s (le-of-suc-le-suc l)))
 
 -- rooms of one length have as many nodes
-pub slot-wide : (xs ys : List ℕ) → length xs ≡ length ys → 129 ≤ length (slotsOf ys) → 129 ≤ length (slotsOf xs)
-slot-wide xs ys e l = omega (arith, slot-length xs, slot-length ys)
+pub slot-wide : (xs ys : List ℕ) (n : ℕ) → length xs ≡ length ys → n ≤ length (slotsOf ys) → n ≤ length (slotsOf xs)
+slot-wide xs ys n e l = omega (arith, slot-length xs, slot-length ys)

@@ -103,12 +103,12 @@ module _ (names : List ℕ) (p : Place) (h : Standing names p) (at : ℕ) (k : p
   top-cands = subst (Stairs (length names)) top-is (h .stairs) .0 .0
 
   -- its slot stands in the room of nodes
-  pub top-deep : at < 129
+  pub top-deep : at < length names + 1
   unfolding Stairs
   top-deep = omega (arith, subst (Stairs (length names)) top-is (h .stairs) .0 .1, stack-length (p .slots) at (p .terms) (d .start), h .wires .few)
 
   -- and so does one more, while a candidate is left
-  pub top-more : val (d .cands) ≢ 0 → at + 1 < 129
+  pub top-more : val (d .cands) ≢ 0 → at + 1 < length names + 1
   unfolding Stairs
   top-more q =
       let b = best-ok (length names) (val (d .cands)) [] top-cands (not-none (val (d .cands)) q) in

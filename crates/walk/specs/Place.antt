@@ -2,7 +2,7 @@
 use mathlib.Core.Path.{_≡_}
 use mathlib.Core.Bool.{Bool, true, false}
 use mathlib.Core.List.{List, [], _∷_}
-use Prim.Native.Nat.{ℕ, _*_, _^_, _≤_, _<_}
+use Prim.Native.Nat.{ℕ, _+_, _*_, _^_, _≤_, _<_}
 use lib.IntN.{ℤ}
 use lib.ListN.{length, getD, set, take}
 use Rattle.rules.specs.Fold.{Term}
@@ -19,7 +19,7 @@ use Rattle.rows.specs.Rows.{rowsOf}
 use Rattle.emit.specs.Emitted.{Ready, Emits}
 use Rattle.walk.specs.declared.Slot.{Slot}
 use Rattle.walk.specs.declared.State.{State}
-use Rattle.walk.specs.Stack.{slotsOf, stackOf, Sound, paid}
+use Rattle.walk.specs.Stack.{nodeWidth, slotsOf, stackOf, Sound, paid}
 
 -- a block's wires by local index: at most 128, each a number that a gate can hold
 pub record Wires (names : List ℕ) : Type 0 where
@@ -53,7 +53,7 @@ pub record Standing (names : List ℕ) (p : Place) : Type 0 where
   pub sound : Sound (length names) (p .slots) (p .depth) (p .end)
   pub stairs : Stairs (length names) (stack p)
   pub fits : p .end ≤ length (p .terms)
-  pub wide : 129 ≤ length (p .slots)
+  pub wide : length names + 1 ≤ length (p .slots)
   pub many : length (p .rows) ≡ length names
   pub ready : Ready (p .out) (p .budget)
 
@@ -77,11 +77,11 @@ pub record Paid (names : List ℕ) (d : Slot) (at : ℕ) (ts ts′ : List Term) 
   pub terms : Begins (crossTerms (d .owed) (d .target) (take (d .start) ts)) (d .start) (d .start) ts ts′
   pub slots : ss′ ≡ set ss at (paid d)
 
--- what a walk over n columns is lent: the wires' names, room for 129 nodes, a row for each wire, and the block's own place in the output
+-- what a walk over n columns is lent: the wires' names, room for a node more than there are columns, a row for each wire, and the block's own place in the output
 pub record Lent (n : ℕ) (names nodes held : List ℕ) (out : List ℤ) (b : Budget) : Type 0 where
   pub wires : Wires names
   pub many : length names ≡ n
-  pub deep : 129 * 5 ≤ length nodes
+  pub deep : nodeWidth * (n + 1) ≤ length nodes
   pub rows : length (rowsOf held) ≡ n
   pub ready : Ready out b
 

@@ -21,6 +21,10 @@ use Rattle.walk.specs.declared.Slot.{Slot}
 abbrev pub nothing : ℕ
 nothing = 128
 
+-- numbers to a node
+abbrev pub nodeWidth : ℕ
+nodeWidth = 5
+
 -- the whole nodes of a room
 unfoldable pub slotsOf : List ℕ → List Slot
 slotsOf [] = []

@@ -2,7 +2,7 @@
 -- The measure is the turns left.
 use mathlib.Core.Path.{_≡_, refl, ap, _∙_}
 use mathlib.Core.Bool.{true}
-use Prim.Native.Nat.{ℕ, _/_, _≤_, _<_}
+use Prim.Native.Nat.{ℕ, _+_, _/_, _≤_, _<_}
 use native.Mathlib.Omega.{arith}
 use borrow.Author.Needs.{needs}
 use borrow.Author.Tests.{ltb-true}
@@ -32,8 +32,8 @@ abbrev μ-loop : tie.MeasureT-loop
 
 -- before the loop: one node
 
-wide : (s : tie.Start Inv-loop μ-loop) → 129 ≤ length (slotsOf (s .args .nodes .now))
-wide s = omega (arith, s .pre .deep, slot-length (s .args .nodes .now))
+wide : (s : tie.Start Inv-loop μ-loop) → length (s .args .names .now) + 1 ≤ length (slotsOf (s .args .nodes .now))
+wide s = omega (arith, s .pre .deep, s .pre .many, slot-length (s .args .nodes .now))
 
 rows-same : (xs ys : List ℕ) → length xs ≡ length ys → length (rowsOf xs) ≡ length (rowsOf ys)
 rows-same xs ys e = omega (arith, row-count xs, row-count ys)
@@ -78,7 +78,7 @@ loop-again c =
     let l = (c .before .before .before .before .before .before .before .before .before .before .before .before .before .before .before) .loop in
     let k = (c .before .before .before .before .before .before .before) .step .kept in
     let st = walk-standing _ _ _ _ _ (l .inv .0) (keeps (c .before .before .before .before .before .before .before .before .before .before .before .before)) in (
-      walk-next _ _ _ _ _ (l .inv .0) (keeps (c .before .before .before .before .before .before .before .before .before .before .before .before)) (waits (c .before .before .before .before .before .before .before .before .before .before .before .before)) _ _ ((c .before .before .before .before .before .before .before) .step .ensures) (slot-wide _ (l .nodes) (k .1 .0) (st .wide)) (rows-same _ (l .held) (k .1 .1 .0) ∙ st .many),
+      walk-next _ _ _ _ _ (l .inv .0) (keeps (c .before .before .before .before .before .before .before .before .before .before .before .before)) (waits (c .before .before .before .before .before .before .before .before .before .before .before .before)) _ _ ((c .before .before .before .before .before .before .before) .step .ensures) (slot-wide _ (l .nodes) _ (k .1 .0) (st .wide)) (rows-same _ (l .held) (k .1 .1 .0) ∙ st .many),
       (k .0 ∙ l .inv .1 .0, (k .1 .0 ∙ l .inv .1 .1 .0, (k .1 .1 .0 ∙ l .inv .1 .1 .1 .0, k .1 .1 .1 .1 .0 ∙ l .inv .1 .1 .1 .1))),
     )
 

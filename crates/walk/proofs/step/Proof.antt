@@ -128,7 +128,7 @@ branch-requires c κs =
     ((omega (arith, starts (c .before .before .before .before .before .before .before .before .before .before), (c .before .before .before .before .before .before .before) .if1 .left), ends s), omega (arith, top-more _ _ (s .pre .0) _ (under s) _ ((c .before .before .before .before .before .before .before .before .before .before) .get .ensures) z, s .pre .0 .wide))
 
 add-after : tie.Need-add-after
-add-after c = omega (arith, top-deep _ _ ((c .before .before .before .before .before .before .before .before .before .before .before .before .before .before .before .before .before .before .before .before .before .before .before) .pre .0) _ (under (c .before .before .before .before .before .before .before .before .before .before .before .before .before .before .before .before .before .before .before .before .before .before .before)) _ refl, under (c .before .before .before .before .before .before .before .before .before .before .before .before .before .before .before .before .before .before .before .before .before .before .before))
+add-after c = let s = (c .before .before .before .before .before .before .before .before .before .before .before .before .before .before .before .before .before .before .before .before .before .before .before) in omega (arith, top-deep _ _ (s .pre .0) _ (under s) _ refl, under s, s .pre .0 .wires .few)
 
 same-length-9 : tie.Need-same-length-9
 same-length-9 c = search needs
