@@ -1,1 +1,2 @@
-pub mod Filling
+-- Laws that belong to no one function.
+pub mod Zeros

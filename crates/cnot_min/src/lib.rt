@@ -94,9 +94,9 @@ fn rewrite(
     );
     let end = GATE_WIDTH * s.gates;
     let counts = count(list, &out[..end], s);
-    clear::clear_out(&mut out[end..]);
-    clear::clear_terms(terms);
-    clear::clear_steps(steps);
+    clear::signed(&mut out[end..]);
+    clear::words(terms);
+    clear::halves(steps);
     counts
 }
 

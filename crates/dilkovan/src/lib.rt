@@ -47,16 +47,7 @@ pub extern "C" fn dilkovan_cnot_min(
 ) -> u64
     ensures { λ r. ⌜ Exports (now (list .entry)) wires bits «qubit_cap» «term_cap» (now (out .entry)) (now (terms .entry)) (now (steps .entry)) (now (counts .entry)) r (now (out .exit)) (now (terms .exit)) (now (steps .exit)) (now (counts .exit)) ⌝ }
 {
-    let a = cnot_min::cnot_min_with(
-        list,
-        wires,
-        bits,
-        qubit_cap,
-        term_cap,
-        out,
-        terms,
-        steps,
-    );
+    let a = cnot_min::cnot_min_with(list, wires, bits, qubit_cap, term_cap, out, terms, steps);
     let Answer::Done(c) = a else {
         return code(a);
     };

@@ -1,18 +1,18 @@
--- The parts of the rooms that are the block's wires' hold the same block; and what is known of a run's block.
-use mathlib.Core.Path.{_≡_, refl, sym, ap, _∙_, subst}
-use mathlib.Core.List.{List, [], _∷_, map}
+-- The parts of the rooms that a block needs hold the same block, and come back as 0; and what is known of a run's block.
+use mathlib.Core.Path.{_≡_, refl, sym, ap, ap₂, _∙_, subst}
+use mathlib.Core.List.{List, [], _∷_, _++_, map}
 use Prim.Native.Nat.{ℕ, zero, suc, _+_, _*_, _^_, _≤_, _<_}
 use native.Mathlib.Nat.{le-refl}
 use native.Mathlib.Omega.{arith}
 use lib.IntN.{ℤ}
-use lib.ListN.{length, getD, take}
-use lib.Seq.{take-nil, getD-take, length-take-le}
-use Rattle.rules.specs.Limits.{maxColumns}
+use lib.ListN.{length, getD, take, drop, replicate, length-replicate}
+use lib.Seq.{getD-take, take-take, length-take-le}
+use Rattle.rules.specs.Limits.{termWidth, stepWidth}
 use Rattle.rules.specs.Gate.{Gate}
 use Rattle.rules.specs.Numbers.{gatesOf}
 use Rattle.rules.specs.Meaning.{op}
 use Rattle.rules.specs.Counts.{isTwo, twos}
-use Rattle.rules.specs.Fold.{Row, Block, empty}
+use Rattle.rules.specs.Fold.{Row, Term, empty}
 use Rattle.rules.specs.Budget.{budgetOf}
 use Rattle.rules.specs.Synth.{blockOf}
 use Rattle.rules.proofs.Bits.{split, same}
@@ -20,38 +20,30 @@ use Rattle.rules.proofs.Bounds.{RowsBelow, TermsBelow, InBounds, bounds-fold}
 use Rattle.rules.proofs.Reading.{gates-length}
 use Rattle.emit.specs.Emitted.{Ready}
 use Rattle.parity.specs.View.{val}
-use Rattle.rows.specs.Rows.{byTwo, row, rowsOf}
+use Rattle.terms.specs.Terms.{termsOf}
+use Rattle.terms.proofs.Room.{room-length, room-take}
+use Rattle.rows.specs.Rows.{rowsOf}
 use Rattle.rows.proofs.Room.{row-count}
 use Rattle.block.specs.declared.Block as State
 use Rattle.block.specs.View.{rowsFrom, rowAt, rowsAt, termsAt, blockAt}
 use Rattle.block.proofs.Rowing.{row-eq, rows-length, rows-ext}
+use Rattle.block.proofs.Parts.{row-take}
 use Rattle.block.proofs.Using.{holds-same}
-use Rattle.synth.specs.Resynthesis.{Rooms}
-use Rattle.flush.specs.Choice.{Writable, Lent, Flushable}
-
--- ---- the first n rows of a room
-
-two-take : (n : ℕ) (xs : List ℕ) → byTwo row (take (2 * n) xs) ≡ take n (byTwo row xs)
-unfolding byTwo
-two-take zero xs = refl
-two-take (suc n) [] = let e : 2 * suc n ≡ suc (suc (2 * n)) = omega arith in rw e
-two-take (suc n) (x ∷ []) = let e : 2 * suc n ≡ suc (suc (2 * n)) = omega arith in rw (e, take-nil (suc (2 * n)))
-two-take (suc n) (x ∷ y ∷ xs) = let e : 2 * suc n ≡ suc (suc (2 * n)) = omega arith in rw e (ap (λ (l : List ℕ). row x y ∷ l) (two-take n xs))
-
-pub row-take : (n : ℕ) (xs : List ℕ) → rowsOf (take (2 * n) xs) ≡ take n (rowsOf xs)
-unfolding rowsOf
-row-take n xs = two-take n xs
+use Rattle.walk.specs.Stack.{nodeWidth}
+use Rattle.flush.specs.Choice.{Scratch, scratch, cleared, Fitted, Lent, Flushable}
 
 -- ---- the block
 
-pub block-cut : (b : State.Block) (names rows room : List ℕ) → blockAt b (take (b .wires) names) (take (2 * b .wires) rows) room ≡ blockAt b names rows room
-unfolding rowsAt
-block-cut b names rows room =
+pub block-cut : (b : State.Block) (names rows room : List ℕ) → b .terms ≤ length (termsOf room)
+    → blockAt b (take (b .wires) names) (take (2 * b .wires) rows) (take (termWidth * b .terms) room) ≡ blockAt b names rows room
+unfolding rowsAt termsAt
+block-cut b names rows room l =
     let n = b .wires in
     let v = val (b .flips) in
-    ap (λ (rs : List Row). record { rows = rs; terms = termsAt b room })
+    ap₂ (λ (rs : List Row) (ts : List Term). record { rows = rs; terms = ts })
     (rows-ext (rowAt (take n names) (rowsOf (take (2 * n) rows)) v) (rowAt names (rowsOf rows) v) n 0
     (λ j l h. row-eq (getD-take n names j 0 (omega arith)) (ap (λ (hs : List ℕ). getD hs j 0) (row-take n rows) ∙ getD-take n (rowsOf rows) j 0 (omega arith)) refl))
+    (ap (take (b .terms)) (room-take (b .terms) room l) ∙ take-take (b .terms) (b .terms) (termsOf room) (le-refl _))
 
 below-from : (m : ℕ) (f : ℕ → Row) (n i : ℕ) → RowsBelow m (rowsFrom f n i) → (j : ℕ) → i ≤ j → j < i + n → f j .parity < 2 ^ m
 unfolding rowsFrom RowsBelow
@@ -75,46 +67,71 @@ unfolding twos
 two-le [] = le-refl 0
 two-le (g ∷ gs) = let h = two-le gs in split (isTwo (g .code)) (λ e. rw e (omega arith)) (λ e. rw e (omega arith))
 
-module _ (run place : List ℤ) (nodes from spare steps : List ℕ) (l : Lent run place nodes from spare steps) where
-  pub ready : Ready place (budgetOf (gatesOf run))
-  ready = record {
-    two = omega arith;
-    all = omega arith;
-    room = omega (arith, gates-length run, l .fits);
-    few = omega (arith, two-le (gatesOf run), l .many);
-  }
+pub ready : (run place : List ℤ) (b : State.Block) (names rows : List ℕ) (s : Scratch) → Fitted run place b names rows s → Ready place (budgetOf (gatesOf run))
+ready run place b names rows s f = record {
+  two = omega arith;
+  all = omega arith;
+  room = omega (arith, gates-length run, f .fits);
+  few = omega (arith, two-le (gatesOf run), f .many);
+}
 
-  pub rooms : (b : State.Block) (names rows room : List ℕ) → Writable run b names rows room
-      → Rooms b (take (b .wires) names) (take (2 * b .wires) rows) room nodes (take (2 * b .wires) from) (take (2 * b .wires) spare) steps (length (gatesOf run))
-  rooms b names rows room w =
-      let n : ℕ = b .wires in
-      let size : length (take n names) ≡ n = length-take-le n names (omega (arith, w .few, w .named)) in
-      let part : (xs : List ℕ) → maxColumns ≤ length (rowsOf xs) → length (take (2 * n) xs) ≡ 2 * n = λ xs h. length-take-le (2 * n) xs (omega (arith, row-count xs, w .few)) in
+-- ---- the parts that are lent
+
+-- a part comes back as 0
+pub part-cleared : (k : ℕ) (xs part : List ℕ) → k ≤ length xs → part ≡ replicate (length (take k xs)) 0 → part ++ drop k xs ≡ cleared k xs
+part-cleared k xs part l e =
+    ap₂ (λ (a b : List ℕ). a ++ b) (e ∙ ap (λ (n : ℕ). replicate n 0) (length-take-le k xs l)) (ap (λ (n : ℕ). drop n xs) (sym (length-replicate k 0)))
+
+module _ (run place : List ℤ) (b : State.Block) (table names rows room nodes held right steps : List ℕ)
+    (f : Flushable run b table names rows room) (l : Lent run place nodes held right steps) where
+  -- each room has the part that the block needs
+  pub record Enough : Type 0 where
+    pub names-in : b .wires ≤ length names
+    pub rows-in : 2 * b .wires ≤ length rows
+    pub terms-in : termWidth * b .terms ≤ length room
+    pub nodes-in : nodeWidth * (b .wires + 1) ≤ length nodes
+    pub held-in : 2 * b .wires ≤ length held
+    pub right-in : 2 * b .wires ≤ length right
+    pub steps-in : stepWidth * (length (gatesOf run) + 1) ≤ length steps
+
+  pub enough : Enough
+  enough =
+      let j = f .holds .rows-are .joins in
       record {
-        walkable = record {
-          few = w .few;
-          named = size;
-          wired = λ i h. let k : i < n = omega (arith, size) in rw (getD-take n names i 0 k) (w .wired i k);
-          terms = w .terms;
-          deep = l .deep;
-          held = part from (l .held);
-        };
-        wide = part rows (w .wide);
-        below = λ i h. rw (row-take n rows, getD-take n (rowsOf rows) i 0 h) (block-below run b names rows room (w .same) i h);
-        right = part spare (l .right);
-        long = l .long;
+        names-in = omega (arith, j .few, j .room);
+        rows-in = omega (arith, j .few, f .holds .rows-are .wide, row-count rows);
+        terms-in = omega (arith, f .holds .terms-are .few, room-length room);
+        nodes-in = omega (arith, j .few, l .deep);
+        held-in = omega (arith, j .few, l .held, row-count held);
+        right-in = omega (arith, j .few, l .right, row-count right);
+        steps-in = l .long;
       }
 
--- ---- what a flush is asked gives what the writing asks
-
-pub writable : (run : List ℤ) (b : State.Block) (table names rows room : List ℕ) → Flushable run b table names rows room → Writable run b names rows room
-writable run b table names rows room f =
-    let j = f .holds .rows-are .joins in
-    record {
-      same = holds-same (f .holds);
-      few = j .few;
-      wired = λ i l. omega (arith, j .inside i l, f .wires);
-      named = j .room;
-      wide = f .holds .rows-are .wide;
-      terms = f .holds .terms-are .few;
-    }
+  pub fitted : Fitted run place b (take (b .wires) names) (take (2 * b .wires) rows)
+      (scratch (take (termWidth * b .terms) room) (take (nodeWidth * (b .wires + 1)) nodes) (take (2 * b .wires) held) (take (2 * b .wires) right) (take (stepWidth * (length (gatesOf run) + 1)) steps))
+  fitted =
+      let n : ℕ = b .wires in
+      let j = f .holds .rows-are .joins in
+      let same : blockAt b names rows room ≡ blockOf (gatesOf run) = holds-same (f .holds) in
+      let t : b .terms ≤ length (termsOf room) = f .holds .terms-are .few in
+      let size : length (take n names) ≡ n = length-take-le n names (enough .names-in) in
+      record {
+        exact = f .exact;
+        many = l .many;
+        fits = l .fits;
+        same = block-cut b names rows room t ∙ same;
+        rooms = record {
+          walkable = record {
+            few = j .few;
+            named = size;
+            wired = λ i h. let k : i < n = omega (arith, size) in rw (getD-take n names i 0 k) (omega (arith, j .inside i k, f .wires));
+            terms = omega (arith, ap length (room-take (b .terms) room t) ∙ length-take-le (b .terms) (termsOf room) t);
+            deep = omega (arith, length-take-le (nodeWidth * (n + 1)) nodes (enough .nodes-in));
+            held = length-take-le (2 * n) held (enough .held-in);
+          };
+          wide = length-take-le (2 * n) rows (enough .rows-in);
+          below = λ i h. rw (row-take n rows, getD-take n (rowsOf rows) i 0 h) (block-below run b names rows room same i h);
+          right = length-take-le (2 * n) right (enough .right-in);
+          long = omega (arith, length-take-le (stepWidth * (length (gatesOf run) + 1)) steps (enough .steps-in));
+        };
+      }

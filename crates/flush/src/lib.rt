@@ -3,12 +3,13 @@ use block::Block;
 use budget::Budget;
 use budget::Pushed;
 use rules::GATE_WIDTH;
+use rules::STEP_WIDTH;
+use rules::TERM_WIDTH;
+use walk::NODE_WIDTH;
 ghost use mathlib.Core.Path.{_≡_};
-ghost use mathlib.Core.List.{List};
-ghost use lib.IntN.{ℤ};
 ghost use lib.ListN.{length};
 ghost use Rattle.budget.specs.View.{view};
-ghost use Rattle.flush.specs.Choice.{keeps, Tried, Exact, Settles, Writable, Lent, Flushable, Flushes};
+ghost use Rattle.flush.specs.Choice.{keeps, Tried, Attempted, Exact, Placed, scratch, Fitted, Chooses, Lent, Flushable, Flushes};
 
 // How many gates the place now has, and whether they are new.
 pub struct Flushed {
@@ -33,17 +34,21 @@ pub fn copy(run: &[i32], place: &mut [i32])
     }
 }
 
-// Keeps what was written at the place, or copies the run there.
+// Keeps what was written at the place, and clears the rest of it; or copies the run there.
 fn settle(run: &[i32], place: &mut [i32], p: Pushed) -> Flushed
     requires { ⌜ length (now place) ≡ length (now run) ⌝ }
     requires { ⌜ Exact (now run) ⌝ }
-    ensures { λ r. ⌜ ((before : List ℤ) → Tried (now (run .entry)) before (now (place .entry)) p → Settles (now (run .entry)) (now (place .exit)) r) ⌝ }
+    requires { ⌜ Attempted (now run) (now place) p ⌝ }
+    ensures { λ r. ⌜ Placed (now (run .entry)) (now (place .exit)) r ⌝ }
 {
     let spent = p.budget;
+    let gates = spent.all;
     let replaced = p.within & cheaper(spent);
     if replaced {
+        let from = GATE_WIDTH * gates;
+        clear::signed(&mut place[from..]);
         Flushed {
-            gates: spent.all,
+            gates,
             replaced: true,
         }
     } else {
@@ -55,7 +60,7 @@ fn settle(run: &[i32], place: &mut [i32], p: Pushed) -> Flushed
     }
 }
 
-// The block written again at its place, within the run's own counts. Of the rooms, only the parts of the block's wires are lent.
+// The block written again at its place, within the run's own counts.
 fn attempt(
     run: &[i32],
     place: &mut [i32],
@@ -68,12 +73,9 @@ fn attempt(
     right: &mut [u64],
     steps: &mut [u32],
 ) -> Pushed
-    requires { ⌜ Writable (now run) block (now names) (now rows) (now room) ⌝ }
-    requires { ⌜ Lent (now run) (now place) (now nodes) (now held) (now right) (now steps) ⌝ }
+    requires { ⌜ Fitted (now run) (now place) block (now names) (now rows) (scratch (now room) (now nodes) (now held) (now right) (now steps)) ⌝ }
     ensures { λ r. ⌜ Tried (now (run .entry)) (now (place .entry)) (now (place .exit)) r ⌝ }
 {
-    let n = block.wires as usize;
-    let end = 2 * n;
     let b = Budget {
         two: 0,
         all: 0,
@@ -82,19 +84,57 @@ fn attempt(
     };
     synth::synthesize(
         block,
-        &names[..n],
-        &rows[..end],
+        names,
+        rows,
         room,
         nodes,
-        &mut held[..end],
-        &mut right[..end],
+        held,
+        right,
         steps,
         place,
         b,
     )
 }
 
-// A closed block: `run` is its gates, `place` its own place in the output, as long as the run. Its wires leave the join table.
+// The block written again and settled, in rooms that are no larger than it needs; what that leaves in them is cleared.
+fn choose(
+    run: &[i32],
+    place: &mut [i32],
+    block: Block,
+    names: &[u32],
+    rows: &[u64],
+    room: &mut [u64],
+    nodes: &mut [u64],
+    held: &mut [u64],
+    right: &mut [u64],
+    steps: &mut [u32],
+) -> Flushed
+    requires { ⌜ Fitted (now run) (now place) block (now names) (now rows) (scratch (now room) (now nodes) (now held) (now right) (now steps)) ⌝ }
+    ensures { λ r. ⌜ Chooses (now (run .entry)) (now (place .exit)) r (scratch (now (room .entry)) (now (nodes .entry)) (now (held .entry)) (now (right .entry)) (now (steps .entry))) (scratch (now (room .exit)) (now (nodes .exit)) (now (held .exit)) (now (right .exit)) (now (steps .exit))) ⌝ }
+{
+    let p = attempt(
+        run,
+        &mut *place,
+        block,
+        names,
+        rows,
+        &mut *room,
+        &mut *nodes,
+        &mut *held,
+        &mut *right,
+        &mut *steps,
+    );
+    let r = settle(run, place, p);
+    clear::words(room);
+    clear::words(nodes);
+    clear::words(held);
+    clear::words(right);
+    clear::halves(steps);
+    r
+}
+
+// A closed block: `run` is its gates, `place` its own place in the output, as long as the run. Its wires leave the join table. Of each work room only
+// the part that the block needs is lent on, so that clearing costs the block's size and the rest is known to be untouched.
 pub fn flush(
     run: &[i32],
     place: &mut [i32],
@@ -110,22 +150,26 @@ pub fn flush(
 ) -> Flushed
     requires { ⌜ Flushable (now run) block (now table) (now names) (now rows) (now room) ⌝ }
     requires { ⌜ Lent (now run) (now place) (now nodes) (now held) (now right) (now steps) ⌝ }
-    ensures { λ r. ⌜ Flushes (now (run .entry)) (now (place .exit)) (now (table .exit)) (now (names .entry)) r ⌝ }
+    ensures { λ r. ⌜ Flushes (now (run .entry)) (now (place .exit)) (now (table .exit)) (now (names .entry)) r block (scratch (now (room .entry)) (now (nodes .entry)) (now (held .entry)) (now (right .entry)) (now (steps .entry))) (scratch (now (room .exit)) (now (nodes .exit)) (now (held .exit)) (now (right .exit)) (now (steps .exit))) ⌝ }
 {
-    let n = block.wires;
-    let p = attempt(
+    let wires = block.wires;
+    let n = wires as usize;
+    let matrix = 2 * n;
+    let stack = NODE_WIDTH * (n + 1);
+    let terms = TERM_WIDTH * block.terms;
+    let most = STEP_WIDTH * (run.len() / GATE_WIDTH + 1);
+    let r = choose(
         run,
-        &mut *place,
+        place,
         block,
-        names,
-        rows,
-        room,
-        nodes,
-        held,
-        right,
-        steps,
+        &names[..n],
+        &rows[..matrix],
+        &mut room[..terms],
+        &mut nodes[..stack],
+        &mut held[..matrix],
+        &mut right[..matrix],
+        &mut steps[..most],
     );
-    let r = settle(run, place, p);
-    join::leave(table, names, n);
+    join::leave(table, names, wires);
     r
 }

@@ -14,16 +14,17 @@ use Rattle.rules.specs.Budget.{Budget}
 use Rattle.terms.specs.Terms.{termsOf}
 use Rattle.rows.specs.Rows.{rowsOf}
 use Rattle.emit.specs.Emitted.{Emits}
+use Rattle.walk.specs.Stack.{nodeWidth}
 use Rattle.closing.specs.Emission.{Wired}
 use Rattle.block.specs.declared.Block as State
 
--- rooms of the block's n wires for its walk: their names, a matrix, the terms, 129 nodes
+-- rooms of the block's n wires for its walk: their names, a matrix, the terms, a node more than wires
 pub record Walkable (b : State.Block) (names room nodes from : List ℕ) : Type 0 where
   pub few : b .wires ≤ maxColumns
   pub named : length names ≡ b .wires
   pub wired : Wired names
   pub terms : b .terms ≤ length (termsOf room)
-  pub deep : 129 * 5 ≤ length nodes
+  pub deep : nodeWidth * (b .wires + 1) ≤ length nodes
   pub held : length from ≡ 2 * b .wires
 
 -- and for the rest: the block's rows, one more matrix, and steps for all gates that the budget allows

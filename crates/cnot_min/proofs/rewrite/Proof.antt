@@ -49,26 +49,26 @@ slice-aggregate-count c = sym (length-take-le _ _ (long (c .before .before .befo
 count-requires : tie.Need-count-requires
 count-requires c κs = search needs
 
-mul-clear-out : tie.Need-mul-clear-out
-mul-clear-out c = omega (arith, limit (c .before .before .before .before .before .before .before .before .before))
+mul-signed : tie.Need-mul-signed
+mul-signed c = omega (arith, limit (c .before .before .before .before .before .before .before .before .before))
 
-sub-clear-out : tie.Need-sub-clear-out
-sub-clear-out c = long (c .before .before .before .before .before .before .before .before .before)
+sub-signed : tie.Need-sub-signed
+sub-signed c = long (c .before .before .before .before .before .before .before .before .before)
 
-part-clear-out-start : tie.Need-part-clear-out-start
-part-clear-out-start c = long (c .before .before .before .before .before .before .before .before .before)
+part-signed-start : tie.Need-part-signed-start
+part-signed-start c = long (c .before .before .before .before .before .before .before .before .before)
 
-part-clear-out-end : tie.Need-part-clear-out-end
-part-clear-out-end c = search needs
+part-signed-end : tie.Need-part-signed-end
+part-signed-end c = search needs
 
-clear-out-requires : tie.Need-clear-out-requires
-clear-out-requires c κs = search needs
+signed-requires : tie.Need-signed-requires
+signed-requires c κs = search needs
 
-clear-terms-requires : tie.Need-clear-terms-requires
-clear-terms-requires c κs = search needs
+words-requires : tie.Need-words-requires
+words-requires c κs = search needs
 
-clear-steps-requires : tie.Need-clear-steps-requires
-clear-steps-requires c κs = search needs
+halves-requires : tie.Need-halves-requires
+halves-requires c κs = search needs
 
 same-length : tie.Need-same-length
 same-length c = search needs
@@ -87,7 +87,7 @@ returns c =
     let n = (c .before .before .before .before .before .before .before .before .before .before .before) .count in
     rewrites (a .qcap) (a .tcap) (a .wires) (a .list .now) (a .out .now) (a .terms .now) (a .steps .now) (s .pre) (d .scan .last .1 .1 .1 .1 .0) (d .scan .result) (scanned d) (n .result) _ (d .scan .last .1 .1 .1 .1 .1 .0) (d .scan .last .1 .1 .1 .1 .1 .1 .0) _ _
     (counts-are (a .qcap) (a .tcap) (a .wires) (a .list .now) (a .out .now) (a .terms .now) (a .steps .now) (s .pre) (d .scan .last .1 .1 .1 .1 .0) (d .scan .result) (scanned d) (n .result) (n .ensures))
-    (d .scan .kept .1 .1 .1 .1 .0) ((c .before .before .before .before .before .before .before .before .before) .clear-out .ensures) ((c .before .before .before .before .before .before) .clear-terms .ensures) (d .scan .kept .1 .1 .1 .1 .1 .0) ((c .before .before) .clear-steps .ensures) (d .scan .kept .1 .1 .1 .1 .1 .1 .0)
+    (d .scan .kept .1 .1 .1 .1 .0) ((c .before .before .before .before .before .before .before .before .before) .signed .ensures) ((c .before .before .before .before .before .before) .words .ensures) (d .scan .kept .1 .1 .1 .1 .1 .0) ((c .before .before) .halves .ensures) (d .scan .kept .1 .1 .1 .1 .1 .1 .0)
 
 pub rewrite-spec : {M : Type 1} → statement M
 rewrite-spec =
@@ -102,13 +102,13 @@ rewrite-spec =
     slice-reshare-prefix-count
     slice-aggregate-count
     count-requires
-    mul-clear-out
-    sub-clear-out
-    part-clear-out-start
-    part-clear-out-end
-    clear-out-requires
-    clear-terms-requires
-    clear-steps-requires
+    mul-signed
+    sub-signed
+    part-signed-start
+    part-signed-end
+    signed-requires
+    words-requires
+    halves-requires
     same-length
     same-length-2
     same-length-3

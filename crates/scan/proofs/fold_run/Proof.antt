@@ -102,7 +102,7 @@ loop-again c =
     let y = asked (a .list .now) (l .table) (l .names) (l .rows) (l .room) (a .start) (l .i) (a .qcap) (a .tcap) (g .result) (l .b) (t .result) (g .ensures) (l .inv .2) (t .ensures) ∙ not-false (t .result) ((c .before .before .before .before .before .before .before .before .before .before .before .before .before) .if1 .left) in (
       omega (arith, l .inv .0),
       omega (arith, (c .before .before .before .before .before .before .before .before .before .before .before .before .before .before .before .before .before .before .before) .loop-test .taken),
-      next (a .list .now) (l .table) (l .names) (l .rows) (l .room) (a .start) (l .i) (g .result) (l .b) (r .result) _ _ _ _ (l .inv .0) (g .ensures) (l .inv .2) (r .ensures),
+      next (a .list .now) (l .table) (l .names) (l .rows) (l .room) (a .start) (l .i) (g .result) (l .b) (r .result) _ _ _ _ (l .inv .0) (g .ensures) (l .inv .2) (r .ensures .holds),
       l .inv .3 ∙ cut-on (a .qcap) (a .tcap) (a .list .now) (a .start) (l .i) (l .inv .0) (omega (arith, (c .before .before .before .before .before .before .before .before .before .before .before .before .before .before .before .before .before .before .before) .loop-test .taken)) y,
       r .kept .1 .1 .0 ∙ l .inv .4,
       r .kept .1 .1 .1 .0 ∙ l .inv .5,
