@@ -1,5 +1,8 @@
-//! Runs the original on many lists: a line `wires bits qubit-cap term-cap g` and 5g numbers for each list on standard input,
-//! a line `m` and 5m numbers for each on standard output.
+//! The original, built from its own text over stand-ins for what is missing of it, and what document 01 adds: refusals, rooms and counts.
+//!
+//!     oracle compare PROGRAM SEED COUNT KIND,KIND..     drives PROGRAM through a pipe and compares every answer (oracle/compare)
+//!     oracle vectors LISTS SEED STDIN STDOUT            writes the stored cases and their answers (oracle/vectors)
+//!     oracle answer                                     answers cases from standard input, as `batch_main` must
 #![allow(dead_code)]
 mod angle;
 mod rest;
@@ -8,102 +11,49 @@ use rest::{angle_stats, pass, qasm, symbolic_angle};
 mod circuit;
 mod cnot_min;
 
-use angle::Angle;
-use circuit::{Circuit, Gate};
-use std::fmt::Write as _;
-use std::io::{BufRead, Write};
+mod answer;
+mod case;
+mod compare;
+mod damage;
+mod gates;
+mod make;
+mod paper;
+mod short;
+mod vectors;
 
-/// The gate of five numbers, by document 01's table.
-pub fn gate(n: &[i32]) -> Gate {
-    let (a, b, c, turn) = (n[1] as u32, n[2] as u32, n[3] as u32, Angle(n[4]));
-    let (control, target) = (a, b);
-    match n[0] {
-        1 => Gate::x(a),
-        2 => Gate::t(a),
-        3 => Gate::tdg(a),
-        4 => Gate::s(a),
-        5 => Gate::sdg(a),
-        6 => Gate::z(a),
-        7 => Gate::rz(turn, a),
-        8 => Gate::cnot { control, target },
-        9 => Gate::cz { control, target },
-        10 => Gate::h(a),
-        11 => Gate::y(a),
-        12 => Gate::sx(a),
-        13 => Gate::reset(a),
-        14 => Gate::p(turn, a),
-        15 => Gate::rx(turn, a),
-        16 => Gate::ry(turn, a),
-        17 => Gate::swap(a, b),
-        18 => Gate::cy { control, target },
-        19 => Gate::ch { control, target },
-        20 => Gate::cp { lambda: turn, control, target },
-        21 => Gate::crx { theta: turn, control, target },
-        22 => Gate::cry { theta: turn, control, target },
-        23 => Gate::crz { theta: turn, control, target },
-        24 => Gate::ccx { control1: a, control2: b, target: c },
-        25 => Gate::ccz { control1: a, control2: b, target: c },
-        26 => Gate::cswap { control: a, first: b, second: c },
-        27 => Gate::measure { qubit: a, cbit: b },
-        code => panic!("no gate has the code {code}"),
+use std::io::{BufReader, Write};
+use std::process::ExitCode;
+
+/// Answers every case of the input.
+fn serve() -> std::io::Result<()> {
+    let mut input = BufReader::new(std::io::stdin().lock());
+    let mut output = std::io::stdout().lock();
+    while let Some(case) = case::Case::read(&mut input)? {
+        let mut bytes = Vec::new();
+        answer::answer(&case).encode(&mut bytes);
+        output.write_all(&bytes)?;
     }
+    Ok(())
 }
 
-/// The five numbers of a gate.
-pub fn numbers(g: &Gate) -> [i32; 5] {
-    let one = |code: i32, q: &u32| [code, *q as i32, 0, 0, 0];
-    let two = |code: i32, p: &u32, q: &u32| [code, *p as i32, *q as i32, 0, 0];
-    match g {
-        Gate::x(q) => one(1, q),
-        Gate::t(q) => one(2, q),
-        Gate::tdg(q) => one(3, q),
-        Gate::s(q) => one(4, q),
-        Gate::sdg(q) => one(5, q),
-        Gate::z(q) => one(6, q),
-        Gate::rz(k, q) => [7, *q as i32, 0, 0, k.0],
-        Gate::cnot { control, target } => two(8, control, target),
-        Gate::cz { control, target } => two(9, control, target),
-        Gate::h(q) => one(10, q),
-        Gate::y(q) => one(11, q),
-        Gate::sx(q) => one(12, q),
-        Gate::reset(q) => one(13, q),
-        Gate::p(k, q) => [14, *q as i32, 0, 0, k.0],
-        Gate::rx(k, q) => [15, *q as i32, 0, 0, k.0],
-        Gate::ry(k, q) => [16, *q as i32, 0, 0, k.0],
-        Gate::swap(p, q) => two(17, p, q),
-        Gate::cy { control, target } => two(18, control, target),
-        Gate::ch { control, target } => two(19, control, target),
-        Gate::cp { lambda, control, target } => [20, *control as i32, *target as i32, 0, lambda.0],
-        Gate::crx { theta, control, target } => [21, *control as i32, *target as i32, 0, theta.0],
-        Gate::cry { theta, control, target } => [22, *control as i32, *target as i32, 0, theta.0],
-        Gate::crz { theta, control, target } => [23, *control as i32, *target as i32, 0, theta.0],
-        Gate::ccx { control1, control2, target } => [24, *control1 as i32, *control2 as i32, *target as i32, 0],
-        Gate::ccz { control1, control2, target } => [25, *control1 as i32, *control2 as i32, *target as i32, 0],
-        Gate::cswap { control, first, second } => [26, *control as i32, *first as i32, *second as i32, 0],
-        Gate::measure { qubit, cbit } => two(27, qubit, cbit),
-    }
-}
-
-fn main() {
-    let input = std::io::stdin().lock();
-    let mut output = std::io::BufWriter::new(std::io::stdout().lock());
-    let mut text = String::new();
-    for line in input.lines() {
-        let line = line.expect("a line of text");
-        let n: Vec<i64> = line.split_ascii_whitespace().map(|w| w.parse().expect("a number")).collect();
-        let [wires, bits, qubits, terms, count] = n[..5] else { panic!("a list has five numbers before its gates") };
-        let list: Vec<i32> = n[5..].iter().map(|&x| x as i32).collect();
-        assert_eq!(list.len(), 5 * count as usize, "five numbers a gate");
-        let mut circuit = Circuit::with_cbits(wires as usize, bits as usize);
-        list.chunks(5).for_each(|g| circuit.apply(gate(g)));
-        let new = cnot_min::cnot_min_with(&circuit, qubits as usize, terms as usize);
-        text.clear();
-        write!(text, "{}", new.gates.len()).unwrap();
-        for g in &new.gates {
-            for x in numbers(g) {
-                write!(text, " {x}").unwrap();
-            }
+fn main() -> ExitCode {
+    let words: Vec<String> = std::env::args().skip(1).collect();
+    let words: Vec<&str> = words.iter().map(|w| w.as_str()).collect();
+    let number = |w: &str| w.parse::<u64>().unwrap_or_else(|_| panic!("{w} is no number"));
+    let result = match words[..] {
+        ["compare", program, seed, count, kinds] => {
+            let kinds = kinds.split(',').map(str::to_string).collect();
+            compare::compare(program, number(seed), number(count) as usize, kinds).map(|n| println!("seed {seed}: all {n} lists agree"))
         }
-        writeln!(output, "{text}").unwrap();
+        ["vectors", lists, seed, stdin, stdout] => vectors::write(lists, number(seed), stdin, stdout).map_err(|e| e.to_string()),
+        ["answer"] => serve().map_err(|e| e.to_string()),
+        _ => Err("oracle compare | vectors | answer: oracle/compare and oracle/vectors say how".to_string()),
+    };
+    match result {
+        Ok(()) => ExitCode::SUCCESS,
+        Err(told) => {
+            eprintln!("{told}");
+            ExitCode::FAILURE
+        }
     }
 }

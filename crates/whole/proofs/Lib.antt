@@ -1,2 +1,0 @@
-pub mod Folding
-pub mod Rooms

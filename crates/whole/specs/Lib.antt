@@ -1,2 +1,0 @@
--- The definitions that the crate's contracts cite, beside those of `rules` and the crates that it calls.
-pub mod Rewriting

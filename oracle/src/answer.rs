@@ -1,0 +1,55 @@
+//! The answer that a case must get: the original's gates, and document 01's refusals and counts.
+use crate::case::{Answer, Case};
+use crate::circuit::Circuit;
+use crate::cnot_min::cnot_min_with;
+use crate::gates::{gate, numbers};
+use crate::paper::{Piece, cut, refusal};
+
+/// What the original makes of a list.
+fn original(case: &Case, list: &[i32]) -> Vec<i32> {
+    let mut circuit = Circuit::with_cbits(case.wires as usize, case.bits as usize);
+    list.chunks(5).for_each(|g| circuit.apply(gate(g)));
+    let new = cnot_min_with(&circuit, case.qubit_cap as usize, case.term_cap as usize);
+    new.gates.iter().flat_map(numbers).collect()
+}
+
+/// How many blocks the scan closes, and how many of them are replaced. The original does not tell: the list is cut by a second reading of
+/// document 01, the original runs on each block alone, and a block is replaced exactly when something else comes out. The cut is trusted
+/// because the pieces side by side must be what the original makes of the whole.
+fn blocks(case: &Case, whole: &[i32]) -> [u32; 2] {
+    let pieces = cut(&case.list, case.qubit_cap, case.term_cap);
+    let mut told = [0, 0];
+    let mut joined = Vec::with_capacity(whole.len());
+    for piece in &pieces {
+        match piece {
+            Piece::Copied(i) => joined.extend_from_slice(&case.list[5 * i..5 * i + 5]),
+            Piece::Block(run) => {
+                let run = &case.list[5 * run.start..5 * run.end];
+                // a list that is one block was run already
+                let new = if pieces.len() == 1 { whole.to_vec() } else { original(case, run) };
+                told[0] += 1;
+                told[1] += (new != run) as u32;
+                joined.extend(new);
+            }
+        }
+    }
+    assert!(joined == whole, "the blocks side by side are not what the original makes of\n{case}");
+    told
+}
+
+fn having(list: &[i32], codes: [i32; 2]) -> u32 {
+    list.chunks(5).filter(|g| codes.contains(&g[0])).count() as u32
+}
+
+pub fn answer(case: &Case) -> Answer {
+    if let Some((number, place)) = refusal(case) {
+        return Answer::Refused { number, place };
+    }
+    let gates = original(case, &case.list);
+    let [closed, replaced] = blocks(case, &gates);
+    let (old, new) = (&case.list, &gates);
+    let (two, t) = ([8, 9], [2, 3]);
+    let counts =
+        [old.len() as u32 / 5, new.len() as u32 / 5, having(old, two), having(new, two), having(old, t), having(new, t), closed, replaced];
+    Answer::Done { counts, gates }
+}

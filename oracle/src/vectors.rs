@@ -1,0 +1,146 @@
+//! The stored cases and their answers, the same bytes for the same seed: fixed lists, refusals and rooms by the table, and random lists.
+use crate::answer::answer;
+use crate::case::Case;
+use crate::make::{CAPS, Gate, Rng, blocks, flat, names, random, shape, wide};
+use crate::{damage, short};
+use std::fs;
+use std::io;
+
+/// A gate of each code, on wires 0, 1 and 2 and bit 0.
+fn sound(code: i32) -> Gate {
+    match code {
+        7 | 14..=16 => [code, 0, 0, 0, i32::MAX],
+        8 | 9 | 17..=19 => [code, 0, 1, 0, 0],
+        20..=23 => [code, 0, 1, 0, i32::MIN],
+        24..=26 => [code, 0, 1, 2, 0],
+        _ => [code, 0, 0, 0, 0],
+    }
+}
+
+/// The lists of a text: a line each of wires, bits, caps and the gates' numbers; `#` begins a comment.
+fn fixed(path: &str) -> io::Result<Vec<Case>> {
+    let text = fs::read_to_string(path)?;
+    let lines = text.lines().filter(|l| !l.starts_with('#'));
+    Ok(lines
+        .map(|line| {
+            let n: Vec<i64> = line.split_ascii_whitespace().map(|w| w.parse().expect("a number")).collect();
+            let list = n[4..].iter().map(|&x| x as i32).collect();
+            Case::new(n[0] as u64, n[1] as u64, n[2] as u64, n[3] as u64, list)
+        })
+        .collect())
+}
+
+/// Every code alone at default, least and huge caps, and every field of every code set to a number that may be bad.
+fn codes(out: &mut Vec<Case>) {
+    for code in 1..=27 {
+        for (q, t) in [(128, 512), (0, 0), (u64::MAX, u64::MAX)] {
+            out.push(Case::new(3, 1, q, t, sound(code).to_vec()));
+        }
+        for field in 1..5 {
+            for x in [1, 2, 3, -1, i32::MIN, i32::MAX] {
+                let mut gates = vec![sound(code), sound(code)];
+                gates[1][field] = x;
+                out.push(Case::new(3, 1, 128, 512, flat(&gates)));
+            }
+        }
+    }
+    for code in [0, 28, -1, i32::MIN, i32::MAX] {
+        out.push(Case::new(3, 1, 128, 512, flat(&[sound(2), [code, 0, 0, 0, 0]])));
+    }
+}
+
+/// Each room one short, exact and larger, for lists of 0 to 7 gates.
+fn rooms(out: &mut Vec<Case>) {
+    for g in [0, 1, 2, 7] {
+        let exact = Case::new(1, 0, 128, 512, sound(2).repeat(g));
+        for room in [exact.out.wrapping_sub(1), exact.out, exact.out + 1] {
+            for terms in [exact.terms.wrapping_sub(1), exact.terms, exact.terms + 1, exact.terms + 2] {
+                for steps in [exact.steps - 1, exact.steps, exact.steps + 1] {
+                    // with no gates there is no room one short of nothing
+                    if room <= 100 && terms <= 100 {
+                        out.push(Case { out: room, terms, steps, ..exact.clone() });
+                    }
+                }
+            }
+        }
+    }
+}
+
+/// The limits from both sides, and lists that have several faults, so that the first in the table's order is told.
+fn limits(out: &mut Vec<Case>) {
+    for (wires, bits) in [(0, 0), (0, 1024), (1024, 1024), (1024, 0), (1025, 0), (0, 1025), (u64::MAX, 0), (0, u64::MAX)] {
+        out.push(Case::new(wires, bits, 128, 512, Vec::new()));
+        out.push(Case::new(wires, bits, 128, 512, flat(&[[2, 1023, 0, 0, 0], [27, 1023, 1023, 0, 0]])));
+    }
+    for extra in 1..5 {
+        out.push(Case::new(3, 1, 128, 512, [sound(2).to_vec(), vec![0; extra]].concat()));
+    }
+    let faults: [fn(&mut Case); 7] =
+        [|c| c.list.push(0), |c| c.wires = 1025, |c| c.out = 0, |c| c.terms = 0, |c| c.list[0] = 28, |c| c.list[1] = 5, |c| c.list[4] = 1];
+    for first in 0..faults.len() {
+        for last in first..faults.len() {
+            let mut case = Case::new(3, 1, 128, 512, flat(&[sound(8), sound(24)]));
+            faults[first..=last].iter().for_each(|fault| fault(&mut case));
+            out.push(case);
+        }
+    }
+    // 7 before 8 before 9 within a gate, and the earlier gate first
+    for gate in [[8, 0, 0, 1, 0], [8, 3, 3, 0, 0], [8, 3, 3, 1, 0], [24, 1, 2, 1, 0], [27, 0, 1, 0, 0], [27, 0, 0, 0, 0]] {
+        out.push(Case::new(3, 1, 128, 512, flat(&[sound(2), gate, [0; 5]])));
+    }
+}
+
+/// Lists that span 1 to 4, 127, 128 and 129 wires, at caps that cut them and caps that don't.
+fn spans(r: &mut Rng, out: &mut Vec<Case>) {
+    for n in [1, 2, 3, 4, 127, 128, 129] {
+        let on = names(r, n, n + 1);
+        let walk: Vec<Gate> = on.windows(2).map(|w| [8, w[0], w[1], 0, 0]).collect();
+        let turns: Vec<Gate> = on.iter().map(|&q| [2, q, 0, 0, 0]).collect();
+        let list = flat(&[turns.clone(), walk.clone(), walk.into_iter().rev().collect(), turns].concat());
+        let small = CAPS.iter().flat_map(|&cap| [(cap, 512), (128, cap)]).collect();
+        let caps = if n < 64 { small } else { vec![(127, 512), (128, 128), (129, 127), (u64::MAX, u64::MAX)] };
+        caps.iter().for_each(|&(q, t)| out.push(Case::new(n as u64 + 1, 0, q, t, list.clone())));
+    }
+}
+
+/// 8,192 gates, the most that is accepted, and one gate more.
+fn most(r: &mut Rng, out: &mut Vec<Case>) {
+    let on = names(r, 40, 60);
+    let mut gates: Vec<Gate> = Vec::new();
+    while gates.len() < 8192 {
+        let part = r.sample(&on, 6);
+        gates.extend(shape(r, &part));
+        gates.push([10, part[0], 0, 0, 0]);
+    }
+    gates.truncate(8192);
+    out.push(Case::new(60, 0, 128, 512, flat(&gates)));
+    out.push(Case::new(60, 0, 128, 512, vec![0; 5 * 8193]));
+}
+
+fn all(lists: &str, seed: u64) -> io::Result<Vec<Case>> {
+    let mut r = Rng(seed);
+    let mut out = fixed(lists)?;
+    codes(&mut out);
+    rooms(&mut out);
+    limits(&mut out);
+    spans(&mut r, &mut out);
+    short::full(2, &mut |case| out.push(case));
+    let makers: [(fn(&mut Rng) -> Case, usize); 4] = [(random, 600), (blocks, 200), (damage::damaged, 500), (wide, 8)];
+    for (make, count) in makers {
+        (0..count).for_each(|_| out.push(make(&mut r)));
+    }
+    most(&mut r, &mut out);
+    Ok(out)
+}
+
+pub fn write(lists: &str, seed: u64, stdin: &str, stdout: &str) -> io::Result<()> {
+    let (mut cases, mut answers) = (Vec::new(), Vec::new());
+    let out = all(lists, seed)?;
+    for case in &out {
+        case.encode(&mut cases);
+        answer(case).encode(&mut answers);
+    }
+    println!("{} cases, {} bytes, and their answers, {} bytes", out.len(), cases.len(), answers.len());
+    fs::write(stdin, cases)?;
+    fs::write(stdout, answers)
+}
