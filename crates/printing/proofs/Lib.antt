@@ -1,0 +1,3 @@
+mod Cases
+mod Sizes
+mod Begun

@@ -1,0 +1,5 @@
+mod Heads
+mod Gates
+mod Texts
+pub mod Spelling
+pub mod Verdicts
