@@ -1,0 +1,5 @@
+mod Cases
+mod Places
+mod Few
+mod Answering
+pub mod Saying

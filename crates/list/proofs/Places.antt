@@ -1,0 +1,93 @@
+-- Every place that is printed is small: the lines of a text that was not read, and the gates of a list.
+use mathlib.Core.Bool.{not, _||_}
+use mathlib.Core.List.{List, [], _∷_, _++_}
+use Prim.Native.Nat.{ℕ, zero, suc, _+_, _/_, _%_, _≤_}
+use native.Mathlib.Omega.{arith}
+use borrow.Author.Tests.{ltb-false}
+use lib.Dec.{eqb, ltb}
+use lib.IntN.{ℤ}
+use lib.ListN.{length}
+use Rattle.rules.specs.Limits as Limits
+use Rattle.rules.specs.Limits.{width, maxWires, maxBits, termWidth, stepWidth, termEntries, stepEntries}
+use Rattle.rules.specs.Refusal.{Verdict, accepted, refused, faultAt, faultsFrom, verdict}
+use Rattle.rules.proofs.Bits.{split}
+use Rattle.text.specs.Reading.{Found, none, found, onward, word, naturalLine, countLine}
+use Rattle.reading.specs.Lines.{Lines, bad, good, line}
+use Rattle.reading.specs.Reading.{Head, headWord, gatesWord, headAt, row, Rows, rows, Read, malformed, many, read, listGates, finished, counted, headed, readText}
+
+-- ---- gates
+
+abbrev pub placeOf : Verdict → ℕ
+placeOf accepted = 0
+placeOf (refused r) = r .place
+
+fault-place : (l : List ℤ) (w b n i : ℕ) → placeOf (faultsFrom l w b n i) ≤ i + n
+unfolding faultsFrom
+fault-place l w b zero i = omega arith
+fault-place l w b (suc n) i = split (eqb (faultAt l w b i) 0) (λ e. rw e (omega (arith, fault-place l w b n (suc i)))) (λ e. rw e (omega arith))
+
+pub verdict-place : (l : List ℤ) (w b out terms steps : ℕ) → placeOf (verdict l w b out terms steps) ≤ length l / width
+unfolding verdict
+verdict-place l w b out terms steps =
+    let g : ℕ = length l / width in
+    split (not (eqb (length l % width) 0)) (λ e. rw e (omega arith))
+    (λ e. split (ltb Limits.maxGates g) (λ f. rw (e, f) (omega arith))
+    (λ f. split (ltb maxWires w || ltb maxBits b) (λ h. rw (e, f, h) (omega arith))
+    (λ h. split (ltb out (length l)) (λ i. rw (e, f, h, i) (omega arith))
+    (λ i. split (ltb (terms / termWidth) (termEntries g) || ltb (steps / stepWidth) (stepEntries g)) (λ j. rw (e, f, h, i, j) (omega arith))
+    (λ j. rw (e, f, h, i, j) (omega (arith, fault-place l w b g zero)))))))
+
+-- ---- lines
+
+-- the number of the wrong line, or of the next one
+abbrev number : {A : Type 0} → Lines A → ℕ
+number (bad k) = k
+number (good v k left) = k
+
+line-number : {A B : Type 0} (k m : ℕ) (o : Found A) (next : A → ℕ → List ℕ → Lines B) → k ≤ m
+    → ((v : A) (left : List ℕ) → number (next v (suc k) left) ≤ m) → number (line k o next) ≤ m
+line-number k m none next h f = h
+line-number k m (found v left) next h f = f v left
+
+head-number : (k : ℕ) (bs : List ℕ) → number (headAt k bs) ≤ k + 5
+unfolding headAt
+head-number k bs =
+    line-number k (k + 5) (word headWord bs) _ (omega arith) (λ u a.
+    line-number (suc k) (k + 5) (naturalLine a) _ (omega arith) (λ x b.
+    line-number (suc (suc k)) (k + 5) (naturalLine b) _ (omega arith) (λ y c.
+    line-number (suc (suc (suc k))) (k + 5) (naturalLine c) _ (omega arith) (λ z d.
+    line-number (suc (suc (suc (suc k)))) (k + 5) (naturalLine d) _ (omega arith) (λ t e. omega arith)))))
+
+rows-number : (n k : ℕ) (bs : List ℕ) → number (rows n k bs .behind) ≤ k + n
+unfolding rows
+rows-number zero k bs = omega arith
+rows-number (suc n) k bs = go (row width bs .behind) (λ left. rows-number n (suc k) left)
+  where
+    go : (o : Found Unit) → ((left : List ℕ) → number (rows n (suc k) left .behind) ≤ suc k + n)
+        → number (onward {B = Rows} o (record { numbers = row width bs .numbers; behind = bad k }) (λ u left. record { numbers = row width bs .numbers ++ rows n (suc k) left .numbers; behind = rows n (suc k) left .behind }) .behind) ≤ k + suc n
+    go none f = omega arith
+    go (found u left) f = omega (arith, f left)
+
+abbrev pub lineOf : Read → ℕ
+lineOf (malformed k) = k
+lineOf (many k) = k
+lineOf (read h ns) = 0
+
+finished-line : (h : Head) (ns : List ℤ) (o : Lines Unit) → lineOf (finished h ns o) ≤ number o
+finished-line h ns (bad k) = omega arith
+finished-line h ns (good u k []) = omega arith
+finished-line h ns (good u k (b ∷ bs)) = omega arith
+
+counted-line : (h : Head) (k : ℕ) (o : Found ℕ) → lineOf (counted h k o) ≤ suc k + listGates
+counted-line h k none = omega arith
+counted-line h k (found n left) =
+    split (ltb listGates n) (λ e. rw e (omega arith))
+    (λ e. rw e (omega (arith, ltb-false listGates n e, rows-number n (suc k) left, finished-line h (rows n (suc k) left .numbers) (rows n (suc k) left .behind))))
+
+headed-line : (o : Lines Head) → number o ≤ 6 → lineOf (headed o) ≤ 7 + listGates
+headed-line (bad k) h = omega arith
+headed-line (good v k left) h = omega (arith, counted-line v k (countLine gatesWord left))
+
+pub text-line : (bs : List ℕ) → lineOf (readText bs) ≤ 7 + listGates
+unfolding readText
+text-line bs = headed-line (headAt 1 bs) (head-number 1 bs)

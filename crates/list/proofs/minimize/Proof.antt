@@ -1,0 +1,156 @@
+-- `list::minimize` meets its contract: rooms of the right length, and what is printed is what the pass says.
+use mathlib.Core.Path.{_≡_, sym, subst, _∙_}
+use Prim.Native.Nat.{ℕ, _≤_}
+use native.Mathlib.Omega.{arith}
+use borrow.Author.Needs.{needs}
+use lib.Seq.{length-take-le}
+use Rattle.reading.specs.Reading.{listGates}
+use Rattle.reading.specs.Told.{headOf}
+use Rattle.printing.specs.Told.{mostNumbers}
+use Rattle.list.specs.Answer.{refusal, listed}
+use Rattle.list.proofs.Answering.{Made, refused-listed, done-listed}
+use Rattle.list.proofs.minimize.Statement.{statement}
+use Rattle.list.proofs.minimize.Tie as tie
+
+cast-cnot-min-with : tie.Need-cast-cnot-min-with
+cast-cnot-min-with c = search needs
+
+cast-cnot-min-with-2 : tie.Need-cast-cnot-min-with-2
+cast-cnot-min-with-2 c = search needs
+
+cast-cnot-min-with-3 : tie.Need-cast-cnot-min-with-3
+cast-cnot-min-with-3 c = search needs
+
+cast-cnot-min-with-4 : tie.Need-cast-cnot-min-with-4
+cast-cnot-min-with-4 c = search needs
+
+mul-new : tie.Need-mul-new
+mul-new c = search needs
+
+array-borrow-prefix-new : tie.Need-array-borrow-prefix-new
+array-borrow-prefix-new c = search needs
+
+slice-aggregate-cnot-min-with : tie.Need-slice-aggregate-cnot-min-with
+slice-aggregate-cnot-min-with c = sym (length-take-le _ _ (omega (arith, (c .before .before .before .before .before .before) .pre .0 .few)))
+
+mul-terms : tie.Need-mul-terms
+mul-terms c = search needs
+
+mul-terms-2 : tie.Need-mul-terms-2
+mul-terms-2 c = search needs
+
+array-borrow-prefix-terms : tie.Need-array-borrow-prefix-terms
+array-borrow-prefix-terms c = search needs
+
+slice-aggregate-cnot-min-with-2 : tie.Need-slice-aggregate-cnot-min-with-2
+slice-aggregate-cnot-min-with-2 c = sym (length-take-le _ _ (omega (arith, (c .before .before .before .before .before .before .before) .pre .0 .few)))
+
+add-steps : tie.Need-add-steps
+add-steps c = search needs
+
+mul-steps : tie.Need-mul-steps
+mul-steps c = search needs
+
+array-borrow-prefix-steps : tie.Need-array-borrow-prefix-steps
+array-borrow-prefix-steps c = search needs
+
+slice-aggregate-cnot-min-with-3 : tie.Need-slice-aggregate-cnot-min-with-3
+slice-aggregate-cnot-min-with-3 c = sym (length-take-le _ _ (omega (arith, (c .before .before .before .before .before .before .before .before) .pre .0 .few)))
+
+cnot-min-with-requires : tie.Need-cnot-min-with-requires
+cnot-min-with-requires c κs = search needs
+
+-- refused: the place is small, and the refusal is the definition's
+lost : (c : tie.After-a) → (c .a .given .0 .0 .place ≤ listGates) × (listed (headOf ((c .before .before .before .before .before .before .before .before .before .before .before .before .before .before) .args .head)) ((c .before .before .before .before .before .before .before .before .before .before .before .before .before .before) .args .numbers .now) ≡ refusal (c .a .given .0 .0 .number) (c .a .given .0 .0 .place))
+lost c =
+    let s = (c .before .before .before .before .before .before .before .before .before .before .before .before .before .before) in
+    let k = (c .before .before .before .before .before) .cnot-min-with in
+    refused-listed (headOf (s .args .head)) (s .args .numbers .now) _ _ _ _ _ _ _ (s .pre .0)
+    (length-take-le _ _ (omega (arith, s .pre .0 .few)) ∙ s .pre .0 .whole)
+    (length-take-le _ _ (omega (arith, s .pre .0 .few)))
+    (length-take-le _ _ (omega (arith, s .pre .0 .few)))
+    (k .ensures) _ (c .a .given .1)
+
+-- done: the counts are small, and what stands in the room is what the pass makes
+made : (c : tie.After-a2) → Made (headOf ((c .before .before .before .before .before .before .before .before .before .before .before .before .before .before) .args .head)) ((c .before .before .before .before .before .before .before .before .before .before .before .before .before .before) .args .numbers .now) ((c .before .before .before .before .before) .cnot-min-with .last .1 .1 .1 .1 .1 .0) (c .a2 .given .0 .0)
+made c =
+    let s = (c .before .before .before .before .before .before .before .before .before .before .before .before .before .before) in
+    let k = (c .before .before .before .before .before) .cnot-min-with in
+    done-listed (headOf (s .args .head)) (s .args .numbers .now) _ _ _ _ _ _ _ (s .pre .0)
+    (length-take-le _ _ (omega (arith, s .pre .0 .few)) ∙ s .pre .0 .whole)
+    (length-take-le _ _ (omega (arith, s .pre .0 .few)))
+    (length-take-le _ _ (omega (arith, s .pre .0 .few)))
+    (k .ensures) _ (c .a2 .given .1)
+
+enum-known-a : tie.Need-enum-known-a
+enum-known-a c = search needs
+
+cast-refuse : tie.Need-cast-refuse
+cast-refuse c = search needs
+
+cast-refuse-2 : tie.Need-cast-refuse-2
+cast-refuse-2 c = record { fits = omega (arith, lost (c .before .before .before .before) .0) }
+
+refuse-requires : tie.Need-refuse-requires
+refuse-requires c κs = search needs
+
+enum-known-a-2 : tie.Need-enum-known-a-2
+enum-known-a-2 c = search needs
+
+mul-new-2 : tie.Need-mul-new-2
+mul-new-2 c = record { fits = omega (arith, made (c .before .before .before) .small .gatesout) }
+
+array-share-prefix-new : tie.Need-array-share-prefix-new
+array-share-prefix-new c = made (c .before .before .before) .fits _
+
+slice-aggregate-print : tie.Need-slice-aggregate-print
+slice-aggregate-print c = sym (length-take-le _ _ (made (c .before .before .before .before) .fits _))
+
+print-requires : tie.Need-print-requires
+print-requires c κs = (((c .before .before .before .before .before .before .before .before .before .before .before .before .before .before .before .before .before .before) .pre .1, subst (λ (k : ℕ). k ≤ mostNumbers) (sym (length-take-le _ _ (made (c .before .before .before .before) .fits _))) (omega (arith, made (c .before .before .before .before) .small .gatesout))), made (c .before .before .before .before) .small)
+
+same-length : tie.Need-same-length
+same-length c = search needs
+
+returns : tie.Need-returns
+returns c = rw (lost (c .before .before .before .before .before .before .before) .1) ((c .before .before) .refuse .ensures)
+
+same-length-2 : tie.Need-same-length-2
+same-length-2 c = search needs
+
+returns-2 : tie.Need-returns-2
+returns-2 c = rw (made (c .before .before .before .before .before .before .before) .shows) (rw (made (c .before .before .before .before .before .before .before) .text _) at ((c .before .before) .print .ensures))
+
+pub minimize-spec : {M : Type 1} → statement M
+minimize-spec =
+    tie.close
+    (tie.spec
+    cast-cnot-min-with
+    cast-cnot-min-with-2
+    cast-cnot-min-with-3
+    cast-cnot-min-with-4
+    mul-new
+    array-borrow-prefix-new
+    slice-aggregate-cnot-min-with
+    mul-terms
+    mul-terms-2
+    array-borrow-prefix-terms
+    slice-aggregate-cnot-min-with-2
+    add-steps
+    mul-steps
+    array-borrow-prefix-steps
+    slice-aggregate-cnot-min-with-3
+    cnot-min-with-requires
+    enum-known-a
+    cast-refuse
+    cast-refuse-2
+    refuse-requires
+    enum-known-a-2
+    mul-new-2
+    array-share-prefix-new
+    slice-aggregate-print
+    print-requires
+    same-length
+    returns
+    same-length-2
+    returns-2)
