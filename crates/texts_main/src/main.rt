@@ -1,0 +1,134 @@
+// Reads texts, each as a little-endian number of 32 bits, its length, and its bytes; and writes what the list program prints for each in the
+// same form. It stops where the input ends.
+use libc::STDIN_FILENO;
+use libc::STDOUT_FILENO;
+ghost use Prim.Native.Nat.{_+_, _≤_, _<_};
+ghost use lib.ListN.{length};
+
+// One byte more than a text may have: of a longer one no more is kept.
+const MOST: usize = 16385;
+
+// Whether to go on, and how much of the output waits.
+struct Step {
+    pub more: bool,
+    pub used: usize,
+}
+
+fn least(a: usize, b: usize) -> usize
+    ensures { λ r. ⌜ (r ≤ a) × (r ≤ b) × (0 < a → 0 < b → 0 < r) ⌝ }
+{
+    if a < b { a } else { b }
+}
+
+// The number of four bytes, the lowest first.
+fn joined(a: u8, b: u8, c: u8, d: u8) -> u32 {
+    a as u32 | ((b as u32) << 8) | ((c as u32) << 16) | ((d as u32) << 24)
+}
+
+// Whether n bytes came.
+fn fill(bytes: &mut [u8], n: usize) -> bool
+    requires { ⌜ n ≤ length (now bytes) ⌝ }
+{
+    io::read_full(STDIN_FILENO, &mut bytes[..n]) == n
+}
+
+// Reads past n bytes.
+fn skip(n: usize) -> bool {
+    let mut chunk = [0u8; 4096];
+    let mut left = n;
+    while 0 < left {
+        let k = least(left, 4096);
+        if !fill(&mut chunk, k) {
+            return false;
+        }
+        left -= k;
+    }
+    true
+}
+
+// What waits is written first where n bytes more don't fit behind it.
+fn spare(buffer: &[u8], used: usize, n: usize) -> usize
+    requires { ⌜ (used ≤ length (now buffer)) × (n ≤ length (now buffer)) ⌝ }
+    ensures { λ r. ⌜ r + n ≤ length (now (buffer .entry)) ⌝ }
+{
+    if buffer.len() - used < n {
+        io::write_all(STDOUT_FILENO, &buffer[..used]);
+        0
+    } else {
+        used
+    }
+}
+
+fn put(bytes: &[u8], buffer: &mut [u8], at: usize)
+    requires { ⌜ at + length (now bytes) ≤ length (now buffer) ⌝ }
+{
+    let n = bytes.len();
+    for i in 0..n {
+        buffer[at + i] = bytes[i];
+    }
+}
+
+// The answer to a text goes behind what waits.
+fn answer(text: &[u8], buffer: &mut [u8], used: usize) -> usize
+    requires { ⌜ (used ≤ length (now buffer)) × (32772 ≤ length (now buffer)) ⌝ }
+    ensures { λ r. ⌜ r ≤ length (now (buffer .exit)) ⌝ }
+{
+    let mut out = [0u8; 32768];
+    let r = list::list(text, &mut out);
+    let n = r.length;
+    let at = spare(&*buffer, used, n + 4);
+    let head = [(n % 256) as u8, (n / 256 % 256) as u8, 0, 0];
+    put(&head, &mut *buffer, at);
+    put(&out[..n], buffer, at + 4);
+    at + (n + 4)
+}
+
+// One text, if there is one.
+fn next(buffer: &mut [u8], used: usize) -> Step
+    requires { ⌜ (used ≤ length (now buffer)) × (32772 ≤ length (now buffer)) ⌝ }
+    ensures { λ r. ⌜ r .used ≤ length (now (buffer .exit)) ⌝ }
+{
+    let mut head = [0u8; 4];
+    if !fill(&mut head, 4) {
+        return Step { more: false, used };
+    }
+    let n = joined(head[0], head[1], head[2], head[3]) as usize;
+    let k = least(n, MOST);
+    let mut text = [0u8; 16385];
+    if !fill(&mut text, k) {
+        return Step { more: false, used };
+    }
+    if !skip(n - k) {
+        return Step { more: false, used };
+    }
+    Step {
+        more: true,
+        used: answer(&text[..k], buffer, used),
+    }
+}
+
+// A proved loop has to end: it counts its turns down, from a number that no run uses up.
+fn left(turns: u64, more: bool) -> u64
+    requires { ⌜ 0 < turns ⌝ }
+    ensures { λ r. ⌜ r < turns ⌝ }
+{
+    if more { turns - 1 } else { 0 }
+}
+
+fn run(buffer: &mut [u8])
+    requires { ⌜ 32772 ≤ length (now buffer) ⌝ }
+{
+    let mut used = 0;
+    let mut turns = u64::MAX;
+    while 0 < turns {
+        let s = next(&mut *buffer, used);
+        turns = left(turns, s.more);
+        used = s.used;
+    }
+    io::write_all(STDOUT_FILENO, &buffer[..used]);
+}
+
+fn main() {
+    let mut buffer = [0u8; 65536];
+    run(&mut buffer);
+}
