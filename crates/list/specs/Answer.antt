@@ -39,6 +39,7 @@ judged (refused r) h gs = refusal (r .number) (r .place)
 judged accepted h gs = result h gs (pass (h .qubits) (h .terms) gs)
 
 -- a list that was read gets rooms exactly as long as it needs: only 3, and 6 to 9 with the gate's index, can come
+-- (`three-or-gates` among the proofs of `reading`)
 unfoldable pub listed : Head → List ℤ → Answer
 unfolding verdict gatesOf numbersOf pass counts resultText refusalText
 listed h numbers =

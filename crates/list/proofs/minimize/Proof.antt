@@ -1,9 +1,12 @@
 -- `list::minimize` meets its contract: rooms of the right length, and what is printed is what the pass says.
 use mathlib.Core.Path.{_≡_, sym, subst, _∙_}
-use Prim.Native.Nat.{ℕ, _≤_}
+use Prim.Native.Nat.{ℕ, _*_, _/_, _≤_}
 use native.Mathlib.Omega.{arith}
 use borrow.Author.Needs.{needs}
+use lib.IntN.{pos}
+use lib.ListN.{length, replicate}
 use lib.Seq.{length-take-le}
+use Rattle.rules.specs.Limits.{width, termWidth, stepWidth, termEntries, stepEntries}
 use Rattle.reading.specs.Reading.{listGates}
 use Rattle.reading.specs.Told.{headOf}
 use Rattle.printing.specs.Told.{mostNumbers}
@@ -64,23 +67,23 @@ cnot-min-with-requires c κs = search needs
 lost : (c : tie.After-a) → (c .a .given .0 .0 .place ≤ listGates) × (listed (headOf ((c .before .before .before .before .before .before .before .before .before .before .before .before .before .before) .args .head)) ((c .before .before .before .before .before .before .before .before .before .before .before .before .before .before) .args .numbers .now) ≡ refusal (c .a .given .0 .0 .number) (c .a .given .0 .0 .place))
 lost c =
     let s = (c .before .before .before .before .before .before .before .before .before .before .before .before .before .before) in
-    let k = (c .before .before .before .before .before) .cnot-min-with in
+    let g : ℕ = length (s .args .numbers .now) / width in
     refused-listed (headOf (s .args .head)) (s .args .numbers .now) _ _ _ _ _ _ _ (s .pre .0)
-    (length-take-le _ _ (omega (arith, s .pre .0 .few)) ∙ s .pre .0 .whole)
-    (length-take-le _ _ (omega (arith, s .pre .0 .few)))
-    (length-take-le _ _ (omega (arith, s .pre .0 .few)))
-    (k .ensures) _ (c .a .given .1)
+    (length-take-le (width * g) (replicate 2560 (pos 0)) (omega (arith, s .pre .0 .few)) ∙ s .pre .0 .whole)
+    (length-take-le (termWidth * termEntries g) (replicate {A = ℕ} 4608 0) (omega (arith, s .pre .0 .few)))
+    (length-take-le (stepWidth * stepEntries g) (replicate {A = ℕ} 1280 0) (omega (arith, s .pre .0 .few)))
+    ((c .before .before .before .before .before) .cnot-min-with .ensures) _ (c .a .given .1)
 
 -- done: the counts are small, and what stands in the room is what the pass makes
 made : (c : tie.After-a2) → Made (headOf ((c .before .before .before .before .before .before .before .before .before .before .before .before .before .before) .args .head)) ((c .before .before .before .before .before .before .before .before .before .before .before .before .before .before) .args .numbers .now) ((c .before .before .before .before .before) .cnot-min-with .last .1 .1 .1 .1 .1 .0) (c .a2 .given .0 .0)
 made c =
     let s = (c .before .before .before .before .before .before .before .before .before .before .before .before .before .before) in
-    let k = (c .before .before .before .before .before) .cnot-min-with in
+    let g : ℕ = length (s .args .numbers .now) / width in
     done-listed (headOf (s .args .head)) (s .args .numbers .now) _ _ _ _ _ _ _ (s .pre .0)
-    (length-take-le _ _ (omega (arith, s .pre .0 .few)) ∙ s .pre .0 .whole)
-    (length-take-le _ _ (omega (arith, s .pre .0 .few)))
-    (length-take-le _ _ (omega (arith, s .pre .0 .few)))
-    (k .ensures) _ (c .a2 .given .1)
+    (length-take-le (width * g) (replicate 2560 (pos 0)) (omega (arith, s .pre .0 .few)) ∙ s .pre .0 .whole)
+    (length-take-le (termWidth * termEntries g) (replicate {A = ℕ} 4608 0) (omega (arith, s .pre .0 .few)))
+    (length-take-le (stepWidth * stepEntries g) (replicate {A = ℕ} 1280 0) (omega (arith, s .pre .0 .few)))
+    ((c .before .before .before .before .before) .cnot-min-with .ensures) _ (c .a2 .given .1)
 
 enum-known-a : tie.Need-enum-known-a
 enum-known-a c = search needs
