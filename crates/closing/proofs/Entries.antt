@@ -49,10 +49,6 @@ module _ (k : ℕ) (m m′ room room′ : List ℕ) (from to : ℕ) (w : Noted k
       ap₂ take (add-one k) (w .listed) ∙ take-suc-set (stepsOf room) k (cn from to) (omega (arith, step-count room)) in
       rw (e, more)
 
-pub bit-le : (b : Bool) → boolByte b ≤ 1
-bit-le true = omega arith
-bit-le false = omega arith
-
 pub row-held : (c r k p : ℕ) (keep : Bool) (m m′ room room′ : List ℕ) → Noted k c r room room′ → 2 * k + 1 < length room → getD (rowsOf m) c 0 ≡ p
     → rowsOf m′ ≡ set (rowsOf m) r (xor (getD (rowsOf m) r 0) (cond keep p 0)) → cond keep (note c r (held m room k)) (held m room k) ≡ held m′ room′ (k + boolByte keep)
 row-held c r k p keep m m′ room room′ w l ep e = go keep (e ∙ rw (← ep) (kept-add keep c r (rowsOf m)))

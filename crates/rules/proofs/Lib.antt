@@ -1,5 +1,6 @@
 pub mod Table
 pub mod Bits
+pub mod Flags
 pub mod Folding
 pub mod Masks
 pub mod Walking

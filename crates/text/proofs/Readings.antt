@@ -73,10 +73,6 @@ reads-up-to text at most w next p h g s is =
 
 -- ---- a byte
 
-pub byte-le : (ok : Bool) → boolByte ok ≤ 1
-byte-le true = omega arith
-byte-le false = omega arith
-
 -- no byte of the format is 0, so that the end of the text needs no test of its own
 stands-first : (text : List ℕ) (at b : ℕ) → eqb 0 b ≡ false → (ltb at (length text) && eqb (getD text at 0) b) ≡ eqb (first (drop at text)) b
 stands-first text at b h =

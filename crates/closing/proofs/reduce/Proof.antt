@@ -13,7 +13,8 @@ use Rattle.rows.proofs.Room.{row-count}
 use Rattle.rows.proofs.Turns.{pivot-stays}
 use Rattle.closing.specs.declared.Closed.the-variants.{Steps}
 use Rattle.closing.specs.Additions.{held, wanted, Filled, Over}
-use Rattle.closing.proofs.Entries.{bit-le, row-held}
+use Rattle.rules.proofs.Flags.{byte-le}
+use Rattle.closing.proofs.Entries.{row-held}
 use Rattle.closing.proofs.Columns.{clear-next, clear-end, reduce-next, start, lost-diagonal, lost-row, made}
 use Rattle.closing.proofs.reduce.Statement.{statement}
 use Rattle.closing.proofs.reduce.Tie as tie
@@ -141,7 +142,7 @@ cast-k : tie.Need-cast-k Inv-loop μ-loop Inv-columns μ-columns
 cast-k c = search needs
 
 add-k : tie.Need-add-k Inv-loop μ-loop Inv-columns μ-columns
-add-k c = let h = left (c .before .before .before .before .before .before .before .before .before .before .before) in omega (arith, bit-le ((c .before .before .before .before .before .before .before .before) .other .result), (c .before .before .before .before .before .before .before .before .before .before .before .before .before .before .before .before .before .before .before .before .before .before .before .before .before .before .before .before .before) .good .1 .0 .0, (c .before .before .before .before .before .before .before .before .before .before .before .before .before .before .before .before .before .before .before .before .before .before .before .before .before .before .before .before .before) .pre .1)
+add-k c = let h = left (c .before .before .before .before .before .before .before .before .before .before .before) in omega (arith, byte-le ((c .before .before .before .before .before .before .before .before) .other .result), (c .before .before .before .before .before .before .before .before .before .before .before .before .before .before .before .before .before .before .before .before .before .before .before .before .before .before .before .before .before) .good .1 .0 .0, (c .before .before .before .before .before .before .before .before .before .before .before .before .before .before .before .before .before .before .before .before .before .before .before .before .before .before .before .before .before) .pre .1)
 
 add-r : tie.Need-add-r Inv-loop μ-loop Inv-columns μ-columns
 add-r c = let h = left (c .before .before .before .before .before .before .before .before .before .before .before .before) in omega arith
@@ -220,7 +221,7 @@ returns-3 c =
     let j = ready (c .before .before .before .before .before .before .before .before .before .before .before .before .before .before .before .before .before) in
     let w = (c .before .before .before) .note in
     record {
-      told = lost-row ((c .before .before .before .before .before .before .before) .add-kept .last .0) (w .last .0) (l .k + boolByte ((c .before .before .before .before .before .before .before .before .before) .other .result)) (omega (arith, l .inv .3, bit-le ((c .before .before .before .before .before .before .before .before .before) .other .result), w .kept .0)) _ _ _ _ _ _ _ _ _ (j .5) (turned (c .before)) (c .if2 .taken);
+      told = lost-row ((c .before .before .before .before .before .before .before) .add-kept .last .0) (w .last .0) (l .k + boolByte ((c .before .before .before .before .before .before .before .before .before) .other .result)) (omega (arith, l .inv .3, byte-le ((c .before .before .before .before .before .before .before .before .before) .other .result), w .kept .0)) _ _ _ _ _ _ _ _ _ (j .5) (turned (c .before)) (c .if2 .taken);
       beyond = w .ensures .beyond (2 * ((c .before .before .before .before .before .before .before .before .before .before .before .before .before .before .before .before .before .before .before .before .before .before .before .before .before .before .before .before .before .before) .args .limit + 1)) (omega (arith, l .inv .3)) ∙ l .inv .4 ∙ j .4;
     }
 

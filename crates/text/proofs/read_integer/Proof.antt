@@ -4,7 +4,8 @@ use borrow.Author.Needs.{needs}
 use mir.Syntax.{w32}
 use mir.ValLaws.{toZ-ofZ}
 use Rattle.text.specs.Bytes.{minus}
-use Rattle.text.proofs.Readings.{byte-le, stands-within, reads-integer}
+use Rattle.rules.proofs.Flags.{byte-le}
+use Rattle.text.proofs.Readings.{stands-within, reads-integer}
 use Rattle.text.proofs.read_integer.Statement.{statement}
 use Rattle.text.proofs.read_integer.Tie as tie
 
