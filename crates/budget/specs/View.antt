@@ -1,10 +1,9 @@
 -- The code's budget as document 01's, and one gate counted by whether it is a CNOT or CZ.
 use mathlib.Core.Path.{_≡_}
 use mathlib.Core.Bool.{Bool, cond}
-use Prim.Native.Nat.{_+_}
+use Prim.Native.Nat.{_+_, _^_, _<_}
 use Rattle.rules.specs.Budget as Rules
 use Rattle.budget.specs.declared.Budget.{Budget}
-use Rattle.budget.specs.declared.Pushed.{Pushed}
 
 abbrev pub view : Budget → Rules.Budget
 view b = record { two = b .two; all = b .all; maxTwo = b .maxtwo; maxAll = b .maxall }
@@ -13,7 +12,12 @@ view b = record { two = b .two; all = b .all; maxTwo = b .maxtwo; maxAll = b .ma
 abbrev pub counts : Bool → Rules.Budget → Rules.Budget
 counts pair b = record { two = cond pair 1 0 + b .two; all = 1 + b .all; maxTwo = b .maxTwo; maxAll = b .maxAll }
 
--- what `push` answers: the budget with one gate more, and whether that is within the ceilings
-pub record Push (pair : Bool) (b : Rules.Budget) (r : Pushed) : Type 0 where
-  pub budget : view (r .budget) ≡ counts pair b
-  pub within : r .within ≡ Rules.within (counts pair b)
+-- counts that have room for one more
+pub record Low (b : Budget) : Type 0 where
+  pub two : b .two < 2 ^ 63
+  pub all : b .all < 2 ^ 63
+
+-- what `push` makes of a budget, and answers: one gate more, and whether that is within the ceilings
+pub record Push (pair : Bool) (b b′ : Rules.Budget) (answer : Bool) : Type 0 where
+  pub budget : b′ ≡ counts pair b
+  pub within : answer ≡ Rules.within (counts pair b)

@@ -37,7 +37,7 @@ pub fn emit_gate(out: &mut [i32], b: Budget, g: Gate) -> Pushed
     requires { ⌜ Small g ⌝ }
     ensures { λ r. ⌜ Emits (gateOf g ∷ []) (now (out .entry)) (view b) (now (out .exit)) (view (r .budget)) (r .within) ⌝ }
 {
-    let p = b.push(is_two(g.code));
+    let p = budget::push_by(b, is_two(g.code));
     let within = p.within;
     let at = b.all;
     if within {

@@ -12,27 +12,27 @@ use Rattle.emit.proofs.Appending.{emits-gate, emits-past, place-fits}
 use Rattle.emit.proofs.emit_gate.Statement.{statement}
 use Rattle.emit.proofs.emit_gate.Tie as tie
 
--- the budget that `push` hands back is the rules' with the gate counted
+-- the budget that `push_by` hands back is the rules' with the gate counted
 abbrev At : Type 0
-At = tie.After-push
+At = tie.After-push-by
 
-pushed : (c : At) → view (c .push .result .budget) ≡ Rules.push (gateOf (c .before .before .args .g)) (view (c .before .before .args .b))
-pushed c = c .push .ensures .budget ∙ counts-push (gateOf (c .before .before .args .g)) _ (view (c .before .before .args .b)) (sym (c .before .is-two .ensures))
+pushed : (c : At) → view (c .push-by .result .budget) ≡ Rules.push (gateOf (c .before .before .args .g)) (view (c .before .before .args .b))
+pushed c = c .push-by .ensures .budget ∙ counts-push (gateOf (c .before .before .args .g)) _ (view (c .before .before .args .b)) (sym (c .before .is-two .ensures))
 
-told : (c : At) → c .push .result .within ≡ Rules.within (Rules.push (gateOf (c .before .before .args .g)) (view (c .before .before .args .b)))
-told c = c .push .ensures .within
+told : (c : At) → c .push-by .result .within ≡ Rules.within (Rules.push (gateOf (c .before .before .args .g)) (view (c .before .before .args .b)))
+told c = c .push-by .ensures .within
     ∙ ap Rules.within (counts-push (gateOf (c .before .before .args .g)) _ (view (c .before .before .args .b)) (sym (c .before .is-two .ensures)))
 
 is-two-requires : tie.Need-is-two-requires
 is-two-requires c κs = tt
 
-push-requires : tie.Need-push-requires
-push-requires c κs = search needs
+push-by-requires : tie.Need-push-by-requires
+push-by-requires c κs = search needs
 
 write-requires : tie.Need-write-requires
 write-requires c κs =
     let p = c .before .before in
-    let t : p .push .result .within ≡ true = c .before .if1 .taken in
+    let t : p .push-by .result .within ≡ true = c .before .if1 .taken in
     (place-fits _ (view (p .before .before .args .b)) (gateOf (p .before .before .args .g)) (p .before .before .pre .0) (sym (told p) ∙ t), p .before .before .pre .1)
 
 same-length : tie.Need-same-length
@@ -41,17 +41,17 @@ same-length c = search needs
 returns : tie.Need-returns
 returns c =
     let p = c .before .before .before .before in
-    let t : p .push .result .within ≡ true = c .before .before .before .if1 .taken in
+    let t : p .push-by .result .within ≡ true = c .before .before .before .if1 .taken in
     let e = emits-gate _ (view (p .before .before .args .b)) (gateOf (p .before .before .args .g)) (p .before .before .pre .0) (sym (told p) ∙ t) in
     rw (pushed p, t, c .before .write .ensures) e
 
 returns-2 : tie.Need-returns-2
 returns-2 c =
     let p = c .before in
-    let t : p .push .result .within ≡ false = c .if1 .left in
+    let t : p .push-by .result .within ≡ false = c .if1 .left in
     let e = emits-past _ (view (p .before .before .args .b)) (gateOf (p .before .before .args .g)) (p .before .before .pre .0) (sym (told p) ∙ t) in
     rw (pushed p, t) e
 
 pub emit-gate-spec : {M : Type 1} → statement M
 emit-gate-spec =
-    tie.close (tie.spec is-two-requires push-requires write-requires same-length returns returns-2)
+    tie.close (tie.spec is-two-requires push-by-requires write-requires same-length returns returns-2)

@@ -3,8 +3,8 @@ use mathlib.Core.Path.{ap}
 use Prim.Native.Nat.{ℕ, _+_}
 use native.Mathlib.Omega.{arith}
 use borrow.Author.Needs.{needs}
+use Rattle.rules.proofs.Flags.{byte-cond, byte-le}
 use Rattle.budget.specs.View.{view}
-use Rattle.budget.proofs.Counting.{byte-cond, byte-small}
 use Rattle.budget.proofs.Budget.counted.Statement.{statement}
 use Rattle.budget.proofs.Budget.counted.Tie as tie
 
@@ -12,7 +12,7 @@ cast-two : tie.Need-cast-two
 cast-two c = search needs
 
 add-two : tie.Need-add-two
-add-two c = omega (arith, byte-small (c .before .args .pair))
+add-two c = omega (arith, byte-le (c .before .args .pair))
 
 add-all : tie.Need-add-all
 add-all c = search needs
