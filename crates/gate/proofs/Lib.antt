@@ -1,4 +1,5 @@
 mod Tests
 mod Steps
+mod Faultless
 mod Tally
 pub mod Placing

@@ -1,6 +1,6 @@
 -- Gates counted one by one, from place i on.
 use mathlib.Core.Path.{_≡_, refl}
-use mathlib.Core.Bool.{Bool, true, false, _||_, cond}
+use mathlib.Core.Bool.{_||_}
 use mathlib.Core.List.{List, [], _∷_}
 use Prim.Native.Nat.{ℕ, suc, _+_, _-_, _≤_, _<_}
 use native.Mathlib.Numerals.{add-one}
@@ -11,6 +11,7 @@ use mir.Val.{boolByte}
 use Rattle.rules.specs.Gate.{Gate, codeT, codeTdg, codeCnot, codeCz}
 use Rattle.rules.specs.Numbers.{natOf, field, gateAt, gatesFrom}
 use Rattle.rules.specs.Counts.{twos, ts}
+use Rattle.rules.proofs.Flags.{byte-cond}
 use Rattle.gate.specs.Counting.{having}
 
 pub having-twos : (gs : List Gate) → having codeCnot codeCz gs ≡ twos gs
@@ -22,14 +23,6 @@ pub having-ts : (gs : List Gate) → having codeT codeTdg gs ≡ ts gs
 unfolding having ts
 having-ts [] = refl
 having-ts (g ∷ gs) = rw (having-ts gs)
-
-byte-cond : (t : Bool) → boolByte t ≡ cond t 1 0
-byte-cond true = refl
-byte-cond false = refl
-
-pub byte-le : (t : Bool) → boolByte t ≤ 1
-byte-le true = omega arith
-byte-le false = omega arith
 
 module _ (a b : ℕ) (l : List ℤ) (n i : ℕ) where
   pub having-more : i < n → having a b (gatesFrom l (n - i) i)

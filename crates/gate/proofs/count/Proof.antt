@@ -8,9 +8,10 @@ use lib.Dec.{eqb}
 use lib.ListN.{length}
 use Rattle.rules.specs.Limits.{width}
 use Rattle.rules.specs.Numbers.{natOf, field, gatesFrom, gatesOf}
+use Rattle.rules.proofs.Flags.{byte-le}
 use Rattle.gate.specs.Counting.{having}
 use Rattle.gate.proofs.Tests.{read-at, code-at}
-use Rattle.gate.proofs.Tally.{having-more, having-none, byte-le}
+use Rattle.gate.proofs.Tally.{having-more, having-none}
 use borrow.Author.Needs.{needs}
 use Rattle.gate.proofs.count.Statement.{statement}
 use Rattle.gate.proofs.count.Tie as tie

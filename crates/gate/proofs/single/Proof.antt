@@ -1,0 +1,23 @@
+-- `gate::single` meets its contract.
+use mir.ValLaws.{toZ-ofZ}
+use mir.Syntax.{w32}
+use borrow.Author.Needs.{needs}
+use Rattle.gate.proofs.single.Statement.{statement}
+use Rattle.gate.proofs.single.Tie as tie
+
+from-requires : tie.Need-from-requires
+from-requires c κs = search needs
+
+same-requires : tie.Need-same-requires
+same-requires c κs = search needs
+
+same-requires-2 : tie.Need-same-requires-2
+same-requires-2 c κs = search needs
+
+returns : tie.Need-returns
+returns c =
+    let s = c .before .before .before in
+    cc (toZ-ofZ w32 (s .args .y) (s .fits .y), toZ-ofZ w32 (s .args .t) (s .fits .t))
+
+pub single-spec : {M : Type 1} → statement M
+single-spec = tie.close (tie.spec from-requires same-requires same-requires-2 returns)
