@@ -40,18 +40,6 @@ unfolding addTo
 kept-add true c r m = refl
 kept-add false c r m = still r m
 
--- the table of a row: none, and the row
-pub record Pivot (p : ℕ) (t : List ℕ) : Type 0 where
-  pub none : picked t 0 ≡ 0
-  pub row : picked t 1 ≡ p
-
-pub pivot-made : {p : ℕ} {t : List ℕ} (q : Parity) → p ≡ val q → t ≡ 0 ∷ 0 ∷ q .lo ∷ q .hi ∷ [] → Pivot p t
-pivot-made q e f = rw (e, f) (record { none = refl; row = refl })
-
-pub pivot-picks : {p : ℕ} {t : List ℕ} (keep : Bool) (digit : ℕ) → digit ≡ cond keep 1 0 → Pivot p t → picked t digit ≡ cond keep p 0
-pivot-picks true digit e h = rw e (h .row)
-pivot-picks false digit e h = rw e (h .none)
-
 -- row c itself is never added to
 pub pivot-stays : (keep : Bool) (c r x p : ℕ) (m : List ℕ) → keep ≡ otherHas c r x → getD (set m r (xor (getD m r 0) (cond keep p 0))) c 0 ≡ getD m c 0
 pivot-stays keep c r x p m k =

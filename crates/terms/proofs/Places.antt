@@ -2,15 +2,16 @@
 --     place-has              a place below the length says that the table has the parity
 --     place-met, place-new   the fold goes by the place
 --     search-next, search-met, search-end    a turn of the search that goes on, and its two ends
+--     down-none, down-next   the search from the last down
 --     fold-met, fold-new     what one store of the fold leaves in the room
 use mathlib.Core.Path.{_≡_, refl, sym, ap, _∙_}
-use mathlib.Core.Bool.{true, false}
+use mathlib.Core.Bool.{Bool, true, false, cond}
 use mathlib.Core.List.{List, [], _∷_, _++_}
-use Prim.Native.Nat.{ℕ, suc, _+_, _%_, _≤_, _<_, suc-le-suc}
+use Prim.Native.Nat.{ℕ, zero, suc, _+_, _%_, _≤_, _<_, suc-le-suc}
 use native.Mathlib.Nat.{not-suc-le-zero, le-of-suc-le-suc, zero-lt-suc}
 use native.Mathlib.Numerals.{add-one}
 use native.Mathlib.Omega.{arith}
-use lib.ListN.{length, getD, set, take, drop, length-set, length-append}
+use lib.ListN.{length, getD, set, take, drop, length-set, length-append, drop-of-length-le}
 use lib.Seq.{length-take-le, drop-cons, drop-length, getD-take, take-set-lt, drop-set-lt, take-suc-set}
 use lib.Dec.{eqb, ltb, leb·suc-suc}
 use borrow.Author.Tests.{lt-ltb, eqb-true}
@@ -73,6 +74,26 @@ module _ (p n i : ℕ) (xs : List Term) (l : n ≤ length xs) where
     search-end e =
         let q : place p (drop i (take n xs)) ≡ 0 = ap (λ (j : ℕ). place p (drop j (take n xs))) (e ∙ sym size) ∙ ap (place p) (drop-length (take n xs)) in
         omega arith
+
+-- ---- the search from the last down: one more term in front
+module _ (p to : ℕ) (xs : List Term) (l : to ≤ length xs) where
+  pub down-none : to ≡ to + place p (drop to (take to xs))
+  unfolding place
+  down-none =
+      let q : drop to (take to xs) ≡ [] = drop-of-length-le (take to xs) {i = to} (omega (arith, length-take-le to xs l)) in
+      rw q (omega arith)
+
+  pub down-next : (k at : ℕ) (met : Bool) → k < to → met ≡ eqb (getD xs k noTerm .parity) p → at ≡ suc k + place p (drop (suc k) (take to xs))
+      → cond met k at ≡ k + place p (drop k (take to xs))
+  unfolding place
+  down-next k at met h e a =
+      let q : drop k (take to xs) ≡ getD xs k noTerm ∷ drop (suc k) (take to xs) =
+      drop-cons (take to xs) k noTerm (omega (arith, length-take-le to xs l)) ∙ ap (λ (t : Term). t ∷ drop (suc k) (take to xs)) (getD-take to xs k noTerm h) in
+      rw (q, ← e) (by met)
+    where
+      by : (b : Bool) → cond b k at ≡ k + cond b 0 (suc (place p (drop (suc k) (take to xs))))
+      by true = omega arith
+      by false = omega arith
 
 -- ---- the fold's one store
 

@@ -6,6 +6,7 @@ ghost use Prim.Native.Nat.{_<_, _≤_};
 ghost use lib.ListN.{length, take, getD};
 ghost use Rattle.rules.specs.Fold.{signed, addTerm};
 ghost use Rattle.rules.specs.Walk.{nonzero, crossTerms};
+ghost use Rattle.rules.proofs.Chain.{flipTerms};
 ghost use Rattle.parity.specs.View.{val};
 ghost use Rattle.terms.specs.Terms.{termsOf, termOf, noTerm, exchanged, place, Begins, Stores, Adds, Sides, SplitAt};
 
@@ -49,8 +50,30 @@ pub fn exchange(room: &mut [u64], i: usize, j: usize)
     put(&mut *room, j, x);
 }
 
-// The place of the first of the first `count` terms whose parity is p, or `count`.
-pub fn find(room: &[u64], count: usize, p: Parity) -> usize
+// The new place where it was met, else the old one.
+fn met_at(met: bool, new: usize, old: usize) -> usize
+    ensures { λ r. ⌜ r ≡ cond met new old ⌝ }
+{
+    if met { new } else { old }
+}
+
+// A search of few terms, from the last down and with no way out: one that leaves at the term it meets is a branch that the machine guesses wrong.
+fn find_few(room: &[u64], count: usize, p: Parity) -> usize
+    requires { ⌜ count ≤ length (termsOf (now room)) ⌝ }
+    ensures { λ r. ⌜ r ≡ place (val p) (take count (termsOf (now (room .entry)))) ⌝ }
+{
+    let mut at = count;
+    let mut k = count;
+    while k > 0 {
+        k -= 1;
+        let e = get(room, k);
+        at = met_at(e.parity.same(p), k, at);
+    }
+    at
+}
+
+// A search of many, which breaks out with the place it met.
+fn find_first(room: &[u64], count: usize, p: Parity) -> usize
     requires { ⌜ count ≤ length (termsOf (now room)) ⌝ }
     ensures { λ r. ⌜ r ≡ place (val p) (take count (termsOf (now (room .entry)))) ⌝ }
 {
@@ -64,6 +87,18 @@ pub fn find(room: &[u64], count: usize, p: Parity) -> usize
             break i;
         }
         i += 1;
+    }
+}
+
+// The place of the first of the first `count` terms whose parity is p, or `count`.
+pub fn find(room: &[u64], count: usize, p: Parity) -> usize
+    requires { ⌜ count ≤ length (termsOf (now room)) ⌝ }
+    ensures { λ r. ⌜ r ≡ place (val p) (take count (termsOf (now (room .entry)))) ⌝ }
+{
+    if count <= 8 {
+        find_few(room, count, p)
+    } else {
+        find_first(room, count, p)
     }
 }
 
@@ -139,16 +174,16 @@ pub fn split_at(room: &mut [u64], from: usize, to: usize, column: u32) -> usize
     split(&mut room[a..e], column)
 }
 
-// A CNOT from p to t passes the first `count` terms: a parity with bit t has bit p flipped.
-pub fn flip(room: &mut [u64], count: usize, p: u32, t: u32)
-    requires { ⌜ (p < 128) × ((t < 128) × (count ≤ length (termsOf (now room)))) ⌝ }
-    ensures { λ r. ⌜ Begins (crossTerms p t (take count (termsOf (now (room .entry))))) count count (termsOf (now (room .entry))) (termsOf (now (room .exit))) ⌝ }
+// CNOTs from the columns of a mask to t pass the first `count` terms, all at once: a parity with bit t has the mask's columns flipped.
+pub fn flip_by(room: &mut [u64], count: usize, mask: Parity, t: u32)
+    requires { ⌜ (t < 128) × (count ≤ length (termsOf (now room))) ⌝ }
+    ensures { λ r. ⌜ Begins (flipTerms (val mask) t (take count (termsOf (now (room .entry))))) count count (termsOf (now (room .entry))) (termsOf (now (room .exit))) ⌝ }
 {
-    let mask = Parity::single(p);
+    let picks = mask.table();
     for k in 0..count {
         let e = get(&*room, k);
-        let hit = e.parity.has(t);
-        let parity = e.parity.xor(mask.kept(hit));
+        let digit = e.parity.digit(t);
+        let parity = e.parity.xor(Parity::pick(&picks, digit));
         put(
             &mut *room,
             k,
@@ -158,4 +193,12 @@ pub fn flip(room: &mut [u64], count: usize, p: u32, t: u32)
             },
         );
     }
+}
+
+// A CNOT from p to t passes the first `count` terms: a parity with bit t has bit p flipped.
+pub fn flip(room: &mut [u64], count: usize, p: u32, t: u32)
+    requires { ⌜ (p < 128) × ((t < 128) × (count ≤ length (termsOf (now room)))) ⌝ }
+    ensures { λ r. ⌜ Begins (crossTerms p t (take count (termsOf (now (room .entry))))) count count (termsOf (now (room .entry))) (termsOf (now (room .exit))) ⌝ }
+{
+    flip_by(room, count, Parity::single(p), t);
 }

@@ -9,17 +9,17 @@ use borrow.Author.Needs.{needs}
 use lib.ListN.{length, getD}
 use Rattle.rules.specs.Bit.{bit}
 use Rattle.rules.specs.Close.{clearBoth}
-use Rattle.parity.specs.View.{picked}
+use Rattle.parity.proofs.Tables.{Table, table-made, table-picks}
 use Rattle.rows.specs.Rows.{rowsOf, pair, otherHas}
 use Rattle.rows.proofs.Room.{row-count}
-use Rattle.rows.proofs.Turns.{pivot-stays, clear-next, clear-end, another, Pivot, pivot-made, pivot-picks}
+use Rattle.rows.proofs.Turns.{pivot-stays, clear-next, clear-end, another}
 use Rattle.rows.proofs.clear_rows.Statement.{statement}
 use Rattle.rows.proofs.clear_rows.Tie as tie
 
 abbrev Inv-loop : tie.InvT-loop
 Inv-loop a₀ inv₀ column from to pivot follow r₀ a inv r =
     (length a ≡ length a₀) × (length inv ≡ length inv₀) × (from ≤ r) × (r ≤ to)
-    × Pivot (getD (rowsOf a) column 0) pivot × Pivot (getD (rowsOf inv) column 0) follow
+    × Table (getD (rowsOf a) column 0) pivot × Table (getD (rowsOf inv) column 0) follow
     × (clearBoth column (to - from) from (pair (rowsOf a₀) (rowsOf inv₀)) ≡ clearBoth column (to - r) r (pair (rowsOf a) (rowsOf inv)))
 
 abbrev μ-loop : tie.MeasureT-loop
@@ -53,8 +53,8 @@ loop-holds c = (
   refl,
   omega arith,
   omega arith,
-  pivot-made ((c .before .before .before .before) .get .result) (sym ((c .before .before .before .before) .get .ensures)) ((c .before .before .before) .table .ensures),
-  pivot-made ((c .before) .get2 .result) (sym ((c .before) .get2 .ensures)) (c .table2 .ensures),
+  table-made ((c .before .before .before .before) .get .result) (sym ((c .before .before .before .before) .get .ensures)) ((c .before .before .before) .table .ensures),
+  table-made ((c .before) .get2 .result) (sym ((c .before) .get2 .ensures)) (c .table2 .ensures),
   refl,
 )
 
@@ -84,8 +84,8 @@ loop-again c =
     let row : ℕ = getD (rowsOf (l .a)) (l .r) 0 in
     let keep : bit row (s .column) ≡ otherHas (s .column) (l .r) row = another (s .column) (l .r) row (s .from) (s .to) (l .inv .2) (h .0) ((c .before .before .before .before .before .before .before .before .before .before .before .before .before .before .before .before .before .before .before .before .before .before .before) .pre .1 .1 .1) in
     let d : (c .before .before .before .before .before .before .before .before .before .before) .digit .result ≡ cond (bit row (s .column)) 1 0 = (c .before .before .before .before .before .before .before .before .before .before) .digit .ensures .0 ∙ ap (λ (x : ℕ). cond (bit x (s .column)) 1 0) ((c .before .before .before .before .before .before .before .before .before .before .before) .get3 .ensures) in
-    let p = pivot-picks (bit row (s .column)) ((c .before .before .before .before .before .before .before .before .before .before) .digit .result) d (l .inv .4) in
-    let q = pivot-picks (bit row (s .column)) ((c .before .before .before .before .before .before .before .before .before .before) .digit .result) d (l .inv .5) in (
+    let p = table-picks (bit row (s .column)) ((c .before .before .before .before .before .before .before .before .before .before) .digit .result) d (l .inv .4) in
+    let q = table-picks (bit row (s .column)) ((c .before .before .before .before .before .before .before .before .before .before) .digit .result) d (l .inv .5) in (
       (c .before .before .before .before .before .before .before) .add-picked .kept .0 ∙ l .inv .0,
       (c .before .before) .add-picked2 .kept .0 ∙ l .inv .1,
       omega arith,

@@ -1,4 +1,4 @@
--- `terms::find` meets its contract. The loop's invariant: the place is i and the place among what is left. The measure is the terms left.
+-- `terms::find_first` meets its contract. The loop's invariant: the place is i and the place among what is left. The measure is the terms left.
 use mathlib.Core.Path.{_≡_, sym, ap, _∙_}
 use Prim.Native.Nat.{_+_, _-_, _≤_}
 use native.Mathlib.Nat.{zero-add}
@@ -9,8 +9,8 @@ use Rattle.rules.specs.Fold.{Term}
 use Rattle.parity.specs.View.{val}
 use Rattle.terms.specs.Terms.{termsOf, noTerm, place}
 use Rattle.terms.proofs.Places.{search-next, search-met, search-end}
-use Rattle.terms.proofs.find.Statement.{statement}
-use Rattle.terms.proofs.find.Tie as tie
+use Rattle.terms.proofs.find_first.Statement.{statement}
+use Rattle.terms.proofs.find_first.Tie as tie
 
 abbrev Inv-loop : tie.InvT-loop
 Inv-loop room count p i₀ i =
@@ -49,8 +49,8 @@ returns c = search-end _ _ _ _ (c .before .before .before .pre) (c .before .loop
 returns-2 : tie.Need-returns-2 Inv-loop μ-loop
 returns-2 c = search-met _ _ _ _ (c .before .before .before .before .before .before .pre) (c .before .before .before .before .loop .inv .1) (omega arith) (sym (test (c .before)) ∙ c .if2 .taken)
 
-pub find-spec : {M : Type 1} → statement M
-find-spec =
+pub find-first-spec : {M : Type 1} → statement M
+find-first-spec =
     tie.close
     (tie.spec
     Inv-loop
