@@ -1,16 +1,15 @@
--- The columns on which all parities but one agree, by four marks that one pass makes; and the highest of them wins.
+-- The columns on which all parities agree, and those on which all but one do, by four marks that one pass makes; and the highest of them wins.
 --     Marks, mark-none, mark-next    what the marks say of a column after some terms
---     nearly-is                      what they say at the end
---     best-top, nearly-best          a candidate whose score none passes, and none above it reaches
+--     agreed-is, nearly-is           what they say at the end
+--     agreed-best, nearly-best       a candidate whose score none passes, and none above it reaches
 use mathlib.Core.Path.{_≡_, refl, sym, ap, ap₂, _∙_}
 use mathlib.Core.Bool.{Bool, true, false, _&&_, _||_, cond, true≢false}
-use mathlib.Core.List.{List, [], _∷_, _++_}
+use mathlib.Core.List.{List, []}
 use Prim.Native.Nat.{ℕ, zero, suc, _+_, _^_, _≤_, _<_, max, zero-le}
-use native.Mathlib.Nat.{not-suc-le-zero, lt-of-not-le}
-use native.Mathlib.Numerals.{add-one}
+use native.Mathlib.Nat.{not-suc-le-zero, lt-of-not-le, pos-of-ne-zero}
 use native.Mathlib.Omega.{arith}
 use lib.ListN.{length, getD, take}
-use lib.Seq.{take-suc, take-all}
+use lib.Seq.{take-all}
 use lib.Dec.{eqb, leb}
 use borrow.Author.Tests.{ne-eqb, eqb-true, eqb-false, le-leb, lt-leb}
 use Rattle.rules.specs.Bit.{_⊕_, bit, xor}
@@ -18,28 +17,12 @@ use Rattle.rules.specs.Fold.{Term}
 use Rattle.rules.specs.Walk.{side, score, beats, best}
 use Rattle.rules.proofs.Bits.{split, same, and-left, and-right, bit-zero, bit-xor}
 use Rattle.rules.proofs.Machine.{length-sides}
-use Rattle.rules.proofs.Choosing.{best-skip, best-take}
+use Rattle.rules.proofs.Choosing.{best-skip, best-take, best-agreed}
 use Rattle.parity.specs.Columns.{Highest}
 use Rattle.parity.proofs.Laws.{bit-high}
 use Rattle.terms.specs.Terms.{noTerm}
 use Rattle.column.specs.Choice.{Agreed, Nearly, Best}
-
--- how many parities have a column, and how many lack it
-abbrev with : ℕ → List Term → ℕ
-with c ts = length (side true c ts)
-
-abbrev without : ℕ → List Term → ℕ
-without c ts = length (side false c ts)
-
-with-snoc : (c : ℕ) (ts : List Term) (t : Term) → with c (ts ++ (t ∷ [])) ≡ with c ts + cond (bit (t .parity) c) 1 0
-unfolding side
-with-snoc c [] t = split (bit (t .parity) c) (λ e. rw e) (λ e. rw e)
-with-snoc c (u ∷ ts) t = let h = with-snoc c ts t in split (bit (u .parity) c) (λ e. rw e (omega arith)) (λ e. rw e h)
-
-without-snoc : (c : ℕ) (ts : List Term) (t : Term) → without c (ts ++ (t ∷ [])) ≡ without c ts + cond (bit (t .parity) c) 0 1
-unfolding side
-without-snoc c [] t = split (bit (t .parity) c) (λ e. rw e) (λ e. rw e)
-without-snoc c (u ∷ ts) t = let h = without-snoc c ts t in split (bit (u .parity) c) (λ e. rw e h) (λ e. rw e (omega arith))
+use Rattle.column.proofs.Scanning.{with, without, with-next, without-next}
 
 -- ---- the marks
 
@@ -91,17 +74,14 @@ most-step true (suc zero) false = refl
 most-step true (suc (suc z)) b = rw (lt-leb (suc (suc z)) 0 (omega arith), lt-leb (suc (suc z)) 1 (omega arith), lt-leb (suc (suc z) + cond b 0 1) 1 (omega arith))
 
 module _ (cands c : ℕ) (ts : List Term) (i : ℕ) (p : Term) (r : p ≡ getD ts i noTerm) (l : i < length ts) where
-  next : take (i + 1) ts ≡ take i ts ++ (p ∷ [])
-  next = rw (add-one i, r) (take-suc ts i noTerm l)
-
   pub mark-next : (some two every most both two′ some′ kept most′ every′ : ℕ) → Marks cands c (take i ts) some two every most
       → bit both c ≡ (bit some c && bit (p .parity) c) → bit two′ c ≡ (bit two c || bit both c) → bit some′ c ≡ (bit some c || bit (p .parity) c)
       → bit kept c ≡ (bit most c && bit (p .parity) c) → bit most′ c ≡ (bit every c || bit kept c) → bit every′ c ≡ (bit every c && bit (p .parity) c)
       → Marks cands c (take (i + 1) ts) some′ two′ every′ most′
   mark-next some two every most both two′ some′ kept most′ every′ m eb et es ek em ev =
       let b : Bool = bit (p .parity) c in
-      let a : with c (take (i + 1) ts) ≡ with c (take i ts) + cond b 1 0 = ap (with c) next ∙ with-snoc c (take i ts) p in
-      let z : without c (take (i + 1) ts) ≡ without c (take i ts) + cond b 0 1 = ap (without c) next ∙ without-snoc c (take i ts) p in
+      let a : with c (take (i + 1) ts) ≡ with c (take i ts) + cond b 1 0 = with-next c ts i (p .parity) (ap (λ (t : Term). t .parity) r) in
+      let z : without c (take (i + 1) ts) ≡ without c (take i ts) + cond b 0 1 = without-next c ts i p r l in
       record {
         some-is = es ∙ ap (λ (x : Bool). x || b) (m .some-is) ∙ some-step (with c (take i ts)) b ∙ ap (leb 1) (sym a);
         two-is = et ∙ ap₂ _||_ (m .two-is) (eb ∙ ap (λ (x : Bool). x && b) (m .some-is)) ∙ two-step (with c (take i ts)) b ∙ ap (leb 2) (sym a);
@@ -134,6 +114,59 @@ apart (suc zero) a n f g e l = absurd (f refl)
 apart (suc (suc z)) zero n f g e l = absurd (omega arith)
 apart (suc (suc z)) (suc zero) n f g e l = absurd (g refl)
 apart (suc (suc z)) (suc (suc a)) n f g e l = omega arith
+
+-- all have it, or none has it
+all-or-none : (k : Bool) (a z : ℕ) → ((k && leb z 0) || (k ⊕ (k && leb 1 a))) ≡ (k && (eqb z 0 || eqb a 0))
+all-or-none false a z = refl
+all-or-none true a z = ap₂ _||_ (none z) (not-some a)
+  where
+    none : (n : ℕ) → leb n 0 ≡ eqb n 0
+    none zero = refl
+    none (suc n) = rw (lt-leb (suc n) 0 (omega arith), ne-eqb (suc n) 0 (λ e. omega arith))
+
+    not-some : (n : ℕ) → (true ⊕ leb 1 n) ≡ eqb n 0
+    not-some zero = refl
+    not-some (suc n) = rw (le-leb 1 (suc n) (omega arith), ne-eqb (suc n) 0 (λ e. omega arith))
+
+pub agreed-is : (ts : List Term) (cands some two every most n seen unseen r : ℕ) → length ts ≤ n → ((c : ℕ) → Marks cands c (take n ts) some two every most)
+    → ((c : ℕ) → bit seen c ≡ (bit cands c && bit some c)) → unseen ≡ xor cands seen → ((c : ℕ) → bit r c ≡ (bit every c || bit unseen c)) → Agreed ts cands r
+unfolding score
+agreed-is ts cands some two every most n seen unseen r l m es eu er =
+    record {
+      fits = λ i h. let t = sym (is i) ∙ h in (and-left (bit cands i) _ t, whole i (and-right (bit cands i) _ t));
+      others = λ i h k. split-up i (sym (ap (λ (x : Bool). x && (eqb (without i ts) 0 || eqb (with i ts) 0)) h) ∙ sym (is i) ∙ k);
+    }
+  where
+    is : (c : ℕ) → bit r c ≡ (bit cands c && (eqb (without c ts) 0 || eqb (with c ts) 0))
+    is c =
+        let k = rw (take-all n ts l) at (m c) in
+        er c
+        ∙ ap₂ _||_ (k .every-is) (ap (λ (v : ℕ). bit v c) eu ∙ bit-xor cands seen c ∙ ap (λ (x : Bool). bit cands c ⊕ x) (es c ∙ ap (λ (x : Bool). bit cands c && x) (k .some-is)))
+        ∙ all-or-none (bit cands c) (with c ts) (without c ts)
+
+    whole : (c : ℕ) → (eqb (without c ts) 0 || eqb (with c ts) 0) ≡ true → score c ts ≡ length ts
+    whole c e =
+        split (eqb (without c ts) 0)
+        (λ f. omega (arith, eqb-true (without c ts) 0 f, length-sides c ts))
+        (λ f. omega (arith, eqb-true (with c ts) 0 (rw f at e), length-sides c ts))
+
+    split-up : (c : ℕ) → (true && (eqb (without c ts) 0 || eqb (with c ts) 0)) ≡ false → score c ts < length ts
+    split-up c e =
+        split (eqb (without c ts) 0)
+        (λ f. absurd (true≢false (rw f at e)))
+        (λ f. omega (arith, pos-of-ne-zero (eqb-false (without c ts) 0 f), pos-of-ne-zero (eqb-false (with c ts) 0 (rw f at e)), length-sides c ts))
+
+-- one parity agrees with itself
+module _ (ts : List Term) (cands : ℕ) (e : length ts ≡ 1) where
+  one-score : (c : ℕ) → score c ts ≡ length ts
+  unfolding score
+  one-score c = omega (arith, length-sides c ts)
+
+  pub one-agreed : Agreed ts cands cands
+  one-agreed = record { fits = λ i h. (h, one-score i); others = λ i h k. absurd (true≢false (sym h ∙ k)) }
+
+  pub one-nearly : Nearly ts cands cands
+  one-nearly = record { fits = λ i h. (h, omega (arith, one-score i)); others = λ i h k. absurd (true≢false (sym h ∙ k)) }
 
 pub nearly-is : (ts : List Term) (cands some two every most n odd both gap r : ℕ) → length ts ≤ n → ((c : ℕ) → Marks cands c (take n ts) some two every most)
     → gap ≡ xor most every → odd ≡ xor some two → ((c : ℕ) → bit both c ≡ (bit cands c && bit odd c)) → ((c : ℕ) → bit r c ≡ (bit gap c || bit both c))
@@ -194,6 +227,17 @@ module _ (cs : ℕ) (ts : List Term) (s : ℕ) (under : (j : ℕ) → bit cs j �
       (lt-leb (best m cs ts .1) (score m ts) (omega (arith, ap (λ (b : ℕ × ℕ). b .1) below, f m (omega arith) g)))
       ∙ below)
       (λ g. best-skip cs ts m g ∙ below))
+
+pub agreed-best : (ts : List Term) (cands whole c : ℕ) → Agreed ts cands whole → Highest whole c → c < 128 → Best ts cands c
+agreed-best ts cands whole c a h s =
+    record {
+      is = λ n k. ap (λ (b : ℕ × ℕ). b .0) (sym (best-agreed cands ts n c (in-room n k) (a .fits c (h .set) .0) (a .fits c (h .set) .1)
+          (λ j p q e. a .others j e (h .above j p))));
+      small = s;
+    }
+  where
+    in-room : (n : ℕ) → cands < 2 ^ n → c < n
+    in-room n k = lt-of-not-le (λ (l : n ≤ c). true≢false (sym (a .fits c (h .set) .0) ∙ bit-high cands n c k l))
 
 -- where the parities agree on no candidate
 pub nearly-best : (ts : List Term) (cands whole near c : ℕ) → Agreed ts cands whole → whole ≡ 0 → Nearly ts cands near → Highest near c → c < 128 → Best ts cands c

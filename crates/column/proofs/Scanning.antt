@@ -1,65 +1,43 @@
--- One turn of each loop, over plain lists: the AND and the OR over a set, the count of ones, and the scan over the candidates.
+-- One turn of each loop, over plain lists: the OR over a set, the ones and the zeros of a column, and the scan over the candidates.
 use mathlib.Core.Path.{_≡_, refl, sym, ap, ap₂, _∙_}
-use mathlib.Core.Bool.{Bool, true, false, _&&_, _||_, cond, true≢false, false≢true}
+use mathlib.Core.Bool.{Bool, true, false, _&&_, _||_, cond, true≢false}
 use mathlib.Core.List.{List, [], _∷_}
-use Prim.Native.Nat.{ℕ, suc, _+_, _-_, _^_, _≤_, _<_, max}
+use Prim.Native.Nat.{ℕ, zero, suc, _+_, _-_, _^_, _≤_, _<_, max}
 use native.Mathlib.Nat.{lt-of-not-le, le-of-suc-le-suc, not-suc-le-zero}
 use native.Mathlib.Numerals.{add-one}
 use native.Mathlib.Omega.{arith}
-use lib.ListN.{length, getD, drop, drop-of-length-le}
-use lib.Seq.{drop-cons}
+use lib.ListN.{length, getD, take, drop, drop-of-length-le, length-take}
+use lib.Seq.{drop-cons, take-all}
 use lib.Dec.{leb}
 use borrow.Author.Tests.{ne-eqb, leb-true, leb-false}
-use Rattle.rules.specs.Bit.{_⊕_, bit, xor}
+use Rattle.rules.specs.Bit.{bit}
 use Rattle.rules.specs.Fold.{Term}
 use Rattle.rules.specs.Walk.{side, score, beats, best}
-use Rattle.rules.proofs.Bits.{split, same, and-left, bit-zero, bit-xor}
+use Rattle.rules.proofs.Bits.{split, same, bit-zero}
 use Rattle.rules.proofs.Machine.{length-sides}
-use Rattle.rules.proofs.Choosing.{score-ones, best-take, best-skips, best-agreed, every, any, agreed-score, split-score}
-use Rattle.parity.specs.Columns.{clearLowest, Lowest, Highest}
+use Rattle.rules.proofs.Choosing.{score-ones, best-take, best-skips, any}
+use Rattle.parity.specs.Columns.{clearLowest, Lowest}
 use Rattle.parity.proofs.Laws.{bit-clear, bit-high}
 use Rattle.terms.specs.Terms.{noTerm}
-use Rattle.column.specs.Choice.{Agreed, Best}
+use Rattle.column.specs.Choice.{Best}
+use Rattle.column.specs.Planes.{one}
 
--- ---- the AND and the OR, from the first term on
+-- ---- whether a term has the column, from the first term on
 
 module _ (ts : List Term) (c : ℕ) where
-  -- what stands from i on, by the term at i
-  step : (i : ℕ) → i < length ts → drop i ts ≡ getD ts i noTerm ∷ drop (i + 1) ts
-  step i l = rw add-one (drop-cons ts i noTerm l)
+  pub any-none : (v : ℕ) → v ≡ 0 → any c ts ≡ (bit v c || any c (drop 0 ts))
+  any-none v e = ap (λ (b : Bool). b || any c ts) (sym (ap (λ (z : ℕ). bit z c) e ∙ bit-zero c))
 
-  pub every-first : (p : Term) → p ≡ getD ts 0 noTerm → 0 < length ts → every c ts ≡ (bit (p .parity) c && every c (drop 1 ts))
-  unfolding every
-  every-first p e l = ap (every c) (step 0 l) ∙ rw e
-
-  pub any-first : (p : Term) → p ≡ getD ts 0 noTerm → 0 < length ts → any c ts ≡ (bit (p .parity) c || any c (drop 1 ts))
+  pub any-next : (i : ℕ) (p : Term) → p ≡ getD ts i noTerm → i < length ts → (v w : ℕ) → any c ts ≡ (bit v c || any c (drop i ts)) → bit w c ≡ (bit v c || bit (p .parity) c)
+      → any c ts ≡ (bit w c || any c (drop (i + 1) ts))
   unfolding any
-  any-first p e l = ap (any c) (step 0 l) ∙ rw e
-
-  module _ (i : ℕ) (p : Term) (r : p ≡ getD ts i noTerm) (l : i < length ts) where
-    pub every-next : (v w : ℕ) → every c ts ≡ (bit v c && every c (drop i ts)) → bit w c ≡ (bit v c && bit (p .parity) c) → every c ts ≡ (bit w c && every c (drop (i + 1) ts))
-    unfolding every
-    every-next v w e f = e ∙ ap (λ (us : List Term). bit v c && every c us) (step i l) ∙ rw (f, ← r) (sym (assoc (bit v c) (bit (p .parity) c) (every c (drop (i + 1) ts))))
-      where
-        assoc : (a b d : Bool) → ((a && b) && d) ≡ (a && (b && d))
-        assoc true b d = refl
-        assoc false b d = refl
-
-    pub any-next : (v w : ℕ) → any c ts ≡ (bit v c || any c (drop i ts)) → bit w c ≡ (bit v c || bit (p .parity) c) → any c ts ≡ (bit w c || any c (drop (i + 1) ts))
-    unfolding any
-    any-next v w e f = e ∙ ap (λ (us : List Term). bit v c || any c us) (step i l) ∙ rw (f, ← r) (sym (assoc (bit v c) (bit (p .parity) c) (any c (drop (i + 1) ts))))
-      where
-        assoc : (a b d : Bool) → ((a || b) || d) ≡ (a || (b || d))
-        assoc true b d = refl
-        assoc false b d = refl
-
-  pub every-end : (i v : ℕ) → every c ts ≡ (bit v c && every c (drop i ts)) → length ts ≤ i → bit v c ≡ every c ts
-  unfolding every
-  every-end i v e l = sym (e ∙ rw (drop-of-length-le ts l) (unit (bit v c)))
+  any-next i p r l v w e f =
+      let d : drop i ts ≡ getD ts i noTerm ∷ drop (i + 1) ts = rw add-one (drop-cons ts i noTerm l) in
+      e ∙ ap (λ (us : List Term). bit v c || any c us) d ∙ rw (f, ← r) (sym (assoc (bit v c) (bit (p .parity) c) (any c (drop (i + 1) ts))))
     where
-      unit : (b : Bool) → (b && true) ≡ b
-      unit true = refl
-      unit false = refl
+      assoc : (a b d : Bool) → ((a || b) || d) ≡ (a || (b || d))
+      assoc true b d = refl
+      assoc false b d = refl
 
   pub any-end : (i v : ℕ) → any c ts ≡ (bit v c || any c (drop i ts)) → length ts ≤ i → bit v c ≡ any c ts
   unfolding any
@@ -69,75 +47,58 @@ module _ (ts : List Term) (c : ℕ) where
       unit true = refl
       unit false = refl
 
-every-any : (c : ℕ) (ts : List Term) → 0 < length ts → every c ts ≡ true → any c ts ≡ true
-unfolding every any
-every-any c [] l e = absurd (not-suc-le-zero l)
-every-any c (t ∷ ts) l e = rw (and-left (bit (t .parity) c) (every c ts) e)
+-- ---- how many of the first terms have the column, and how many lack it
 
--- the candidates without those on which the OR and the AND differ
-pub agreed-is : (ts : List Term) (cands some all apart both r : ℕ) → 0 < length ts
-    → ((i : ℕ) → bit some i ≡ any i ts) → ((i : ℕ) → bit all i ≡ every i ts)
-    → apart ≡ xor some all → ((i : ℕ) → bit both i ≡ (bit cands i && bit apart i)) → r ≡ xor cands both → Agreed ts cands r
-agreed-is ts cands some all apart both r l hs ha e f g =
-    record {
-      fits = λ i h. let t = to (bit cands i) (any i ts) (every i ts) (sym (is i) ∙ h) in (t .0, agreed-score i ts l (t .1));
-      others = λ i h k. let t = from (any i ts) (every i ts) (every-any i ts l) (ap (λ (b : Bool). b ⊕ (b && (any i ts ⊕ every i ts))) (sym h) ∙ sym (is i) ∙ k) in split-score i ts (t .0) (t .1);
-    }
-  where
-    is : (i : ℕ) → bit r i ≡ (bit cands i ⊕ (bit cands i && (any i ts ⊕ every i ts)))
-    is i =
-        ap (λ (z : ℕ). bit z i) g ∙ bit-xor cands both i
-        ∙ ap (λ (b : Bool). bit cands i ⊕ b) (f i ∙ ap (λ (b : Bool). bit cands i && b) (ap (λ (z : ℕ). bit z i) e ∙ bit-xor some all i ∙ ap₂ _⊕_ (hs i) (ha i)))
+abbrev pub with : ℕ → List Term → ℕ
+with c ts = length (side true c ts)
 
-    to : (b x y : Bool) → (b ⊕ (b && (x ⊕ y))) ≡ true → (b ≡ true) × (x ≡ y)
-    to true true true h = (refl, refl)
-    to true true false h = absurd (false≢true h)
-    to true false true h = absurd (false≢true h)
-    to true false false h = (refl, refl)
-    to false x y h = absurd (false≢true h)
+abbrev pub without : ℕ → List Term → ℕ
+without c ts = length (side false c ts)
 
-    from : (x y : Bool) → (y ≡ true → x ≡ true) → (true ⊕ (true && (x ⊕ y))) ≡ false → (x ≡ true) × (y ≡ false)
-    from true true k h = absurd (true≢false h)
-    from true false k h = (refl, refl)
-    from false true k h = absurd (false≢true (k refl))
-    from false false k h = absurd (true≢false h)
+-- past the end stands no term
+pub past-end : (ts : List Term) (i : ℕ) → length ts ≤ i → getD ts i noTerm .parity ≡ 0
+past-end [] i l = refl
+past-end (t ∷ ts) zero l = absurd (not-suc-le-zero l)
+past-end (t ∷ ts) (suc i) l = past-end ts i (le-of-suc-le-suc l)
 
--- one parity agrees with itself
-pub agreed-one : (ts : List Term) (cands : ℕ) → length ts ≡ 1 → Agreed ts cands cands
-unfolding every any
-agreed-one [] cands e = absurd (omega arith)
-agreed-one (t ∷ []) cands e = record {
-  fits = λ i h. (h, agreed-score i (t ∷ []) (omega arith) (split (bit (t .parity) i) (λ f. rw f) (λ f. rw f)));
-  others = λ i h k. absurd (true≢false (sym h ∙ k));
-}
-agreed-one (t ∷ u ∷ ts) cands e = absurd (omega arith)
-
--- ---- the ones, front to back
-
-module _ (c : ℕ) (ts : List Term) where
-  pub ones-next : (sum i : ℕ) (p : Term) (has : Bool) (one : ℕ) → sum + length (side true c (drop i ts)) ≡ length (side true c ts) → i < length ts → p ≡ getD ts i noTerm
-      → has ≡ bit (p .parity) c → one ≡ cond has 1 0 → (sum + one) + length (side true c (drop (i + 1) ts)) ≡ length (side true c ts)
+module _ (c : ℕ) where
+  with-suc : (ts : List Term) (i : ℕ) → with c (take (suc i) ts) ≡ with c (take i ts) + one (getD ts i noTerm .parity) c
   unfolding side
-  ones-next sum i p has one e l r h k =
-      let d : drop i ts ≡ p ∷ drop (i + 1) ts = rw (r, add-one) (drop-cons ts i noTerm l) in
-      let f : sum + length (side true c (p ∷ drop (i + 1) ts)) ≡ length (side true c ts) = ap (λ (us : List Term). sum + length (side true c us)) (sym d) ∙ e in
-      split (bit (p .parity) c)
-      (λ q. let o : one ≡ 1 = k ∙ rw (h, q) in let g = rw q at f in omega arith)
-      (λ q. let o : one ≡ 0 = k ∙ rw (h, q) in let g = rw q at f in omega arith)
+  with-suc [] zero = rw (bit-zero c)
+  with-suc [] (suc i) = rw (bit-zero c)
+  with-suc (t ∷ ts) zero = split (bit (t .parity) c) (λ e. rw e) (λ e. rw e)
+  with-suc (t ∷ ts) (suc i) = let h = with-suc ts i in split (bit (t .parity) c) (λ e. rw e (omega arith)) (λ e. rw e h)
 
-  pub ones-end : (sum i : ℕ) → sum + length (side true c (drop i ts)) ≡ length (side true c ts) → length ts ≤ i → sum ≡ length (side true c ts)
-  unfolding side
-  ones-end sum i e l =
-      let f : sum + length (side true c []) ≡ length (side true c ts) = ap (λ (us : List Term). sum + length (side true c us)) (sym (drop-of-length-le ts l)) ∙ e in
-      omega arith
+  module _ (ts : List Term) where
+    pub with-none : with c (take 0 ts) ≡ 0
+    unfolding side
+    with-none = refl
 
-  pub ones-le : (ones : ℕ) → ones ≡ length (side true c ts) → ones ≤ length ts
-  ones-le ones e = omega (arith, length-sides c ts)
+    -- one more term; past the end there is none
+    pub with-next : (i p : ℕ) → p ≡ getD ts i noTerm .parity → with c (take (i + 1) ts) ≡ with c (take i ts) + one p c
+    with-next i p e = rw (add-one i, e) (with-suc ts i)
 
-  pub ones-score : (s count ones : ℕ) → s ≡ max ones (count - ones) → count ≡ length ts → ones ≡ length (side true c ts) → s ≡ score c ts
-  ones-score s count ones e k o =
-      let z : count - ones ≡ length (side false c ts) = omega (arith, length-sides c ts) in
-      e ∙ ap₂ max o z ∙ sym (score-ones c ts)
+    pub with-end : (i : ℕ) → length ts ≤ i → with c (take i ts) ≡ with c ts
+    with-end i l = ap (with c) (take-all i ts l)
+
+    pub with-le : (i : ℕ) → (with c (take i ts) ≤ length ts) × (with c (take i ts) ≤ i)
+    with-le i = (omega (arith, length-sides c (take i ts), length-take i ts), omega (arith, length-sides c (take i ts), length-take i ts))
+
+    pub without-next : (i : ℕ) (p : Term) → p ≡ getD ts i noTerm → i < length ts → without c (take (i + 1) ts) ≡ without c (take i ts) + cond (bit (p .parity) c) 0 1
+    without-next i p e l =
+        step (bit (p .parity) c) (with-next i (p .parity) (ap (λ (t : Term). t .parity) e))
+      where
+        step : (b : Bool) → with c (take (i + 1) ts) ≡ with c (take i ts) + cond b 1 0 → without c (take (i + 1) ts) ≡ without c (take i ts) + cond b 0 1
+        step true w = omega (arith, length-sides c (take i ts), length-sides c (take (i + 1) ts), length-take i ts, length-take (i + 1) ts)
+        step false w = omega (arith, length-sides c (take i ts), length-sides c (take (i + 1) ts), length-take i ts, length-take (i + 1) ts)
+
+    pub ones-le : (ones : ℕ) → ones ≡ with c ts → ones ≤ length ts
+    ones-le ones e = omega (arith, length-sides c ts)
+
+    pub ones-score : (s count ones : ℕ) → s ≡ max ones (count - ones) → count ≡ length ts → ones ≡ with c ts → s ≡ score c ts
+    ones-score s count ones e k o =
+        let z : count - ones ≡ without c ts = omega (arith, length-sides c ts) in
+        e ∙ ap₂ max o z ∙ sym (score-ones c ts)
 
 -- ---- the scan over the candidates, from the lowest up: those below `at` are behind it
 
@@ -196,16 +157,3 @@ module _ (cands : ℕ) (ts : List Term) (left : ℕ) (kept : ℕ × ℕ) (h : Sc
           split (leb (h .at) n)
           (λ q. skipped (h .at) n (leb-true (h .at) n q) (λ i a b. none i a) ∙ h .is)
           (λ q. sym (skipped n (h .at) (omega (arith, leb-false (h .at) n q)) (λ i a b. bit-high cands n i k a)) ∙ h .is)
-
--- ---- a column on which all parities agree
-
-pub agreed-best : (ts : List Term) (cands whole c : ℕ) → Agreed ts cands whole → Highest whole c → c < 128 → Best ts cands c
-agreed-best ts cands whole c a h s =
-    record {
-      is = λ n k. ap (λ (b : ℕ × ℕ). b .0) (sym (best-agreed cands ts n c (in-room n k) (a .fits c (h .set) .0) (a .fits c (h .set) .1)
-          (λ j p q e. a .others j e (h .above j p))));
-      small = s;
-    }
-  where
-    in-room : (n : ℕ) → cands < 2 ^ n → c < n
-    in-room n k = lt-of-not-le (λ (l : n ≤ c). true≢false (sym (a .fits c (h .set) .0) ∙ bit-high cands n c k l))

@@ -1,2 +1,3 @@
--- What the choice of a column promises.
+-- What the choice of a column promises, and the counts by planes.
 pub mod Choice
+pub mod Planes

@@ -1,83 +1,57 @@
--- `column::best_counted` meets its contract. The loop's invariant is `Scanned`: of the candidates below some column the best is kept, and the others are left.
--- The measure is the columns left, as a number.
-use mathlib.Core.Path.{_≡_, sym, _∙_}
-use Prim.Native.Nat.{_<_}
+-- `column::best_counted` meets its contract: the best of the two ends is the best.
+use mathlib.Core.Path.{sym, _∙_}
 use native.Mathlib.Nat.{pos-of-ne-zero}
 use native.Mathlib.Omega.{arith}
-use borrow.Author.Tests.{not-true, not-false, eqb-true, eqb-false}
-use lib.ListN.{length}
-use Rattle.parity.specs.View.{val}
-use Rattle.parity.proofs.Laws.{clear-lt}
-use Rattle.terms.specs.Terms.{termsOf}
+use lib.ListN.{replicate}
+use lib.Seq.{length-take-le}
+use borrow.Author.Needs.{needs}
+use borrow.Author.Tests.{eqb-true, eqb-false}
 use Rattle.terms.proofs.Room.{room-length}
-use Rattle.column.specs.Choice.{pairOf}
-use Rattle.column.proofs.Scanning.{Scanned, scan-first, scan-next, scan-end, ones-le, ones-score}
+use Rattle.column.proofs.Adding.{clear-planes}
+use Rattle.column.proofs.Sifting.{none-best}
 use Rattle.column.proofs.best_counted.Statement.{statement}
 use Rattle.column.proofs.best_counted.Tie as tie
 
-abbrev Inv-loop : tie.InvT-loop
-Inv-loop set count kept₀ left₀ kept left = Scanned (val left₀) (termsOf set) (val left) (pairOf kept)
-
-abbrev μ-loop : tie.MeasureT-loop
-μ-loop set count kept₀ left₀ kept left = val left
-
--- a column is left
-
-some : (c : tie.Then1 Inv-loop μ-loop) → 0 < val ((c .before .before) .loop .left)
-some c = pos-of-ne-zero (eqb-false (val ((c .before .before) .loop .left)) 0 (sym ((c .before) .is-zero .ensures) ∙ not-true ((c .before) .is-zero .result) (c .if1 .taken)))
-
-loop-holds : tie.Need-loop-holds Inv-loop μ-loop
-loop-holds c = scan-first _ _
-
-count-ones-requires : tie.Need-count-ones-requires Inv-loop μ-loop
-count-ones-requires c κs = c .lowest .ensures .small (some (c .before))
-
-sub-larger : tie.Need-sub-larger Inv-loop μ-loop
-sub-larger c = omega (arith, ones-le _ _ _ (c .count-ones .ensures), room-length ((c .before .before .before .before .before .before) .args .set .now))
-
-loop-less : tie.Need-loop-less Inv-loop μ-loop
-loop-less c = rw (c .clear-lowest .ensures) (clear-lt _ (some (c .before .before .before .before .before)))
-
-loop-again : tie.Need-loop-again Inv-loop μ-loop
-loop-again c =
-    let some-left = some (c .before .before .before .before .before) in
-    let r = room-length ((c .before .before .before .before .before .before .before .before .before) .args .set .now) in
-    scan-next _ _ _ _ ((c .before .before .before .before .before .before .before) .loop .inv) _ _ _ _ ((c .before .before .before .before) .lowest .ensures .low some-left) ((c .before .before .before .before) .lowest .ensures .small some-left)
-    (ones-score _ _ _ _ _ ((c .before .before) .larger .ensures) (omega arith) ((c .before .before .before) .count-ones .ensures)) ((c .before) .better .ensures) (c .clear-lowest .ensures)
-
-returns : tie.Need-returns Inv-loop μ-loop
-returns c =
-    scan-end _ _ _ _ ((c .before .before) .loop .inv) (eqb-true (val ((c .before .before) .loop .left)) 0 (sym ((c .before) .is-zero .ensures) ∙ not-false ((c .before) .is-zero .result) (c .if1 .left)))
-
-is-zero-requires : tie.Need-is-zero-requires Inv-loop μ-loop
+is-zero-requires : tie.Need-is-zero-requires
 is-zero-requires c κs = tt
 
-lowest-requires : tie.Need-lowest-requires Inv-loop μ-loop
-lowest-requires c κs = tt
+returns : tie.Need-returns
+returns c = none-best _ _ (eqb-true _ 0 (sym ((c .before) .is-zero .ensures) ∙ c .if1 .taken))
 
-larger-requires : tie.Need-larger-requires Inv-loop μ-loop
-larger-requires c κs = tt
+digits-requires : tie.Need-digits-requires
+digits-requires c κs = tt
 
-better-requires : tie.Need-better-requires Inv-loop μ-loop
-better-requires c κs = tt
+mul-end : tie.Need-mul-end
+mul-end c = search needs
 
-clear-lowest-requires : tie.Need-clear-lowest-requires Inv-loop μ-loop
-clear-lowest-requires c κs = tt
+array-borrow-prefix-planes : tie.Need-array-borrow-prefix-planes
+array-borrow-prefix-planes c = search needs
+
+slice-aggregate-ends : tie.Need-slice-aggregate-ends
+slice-aggregate-ends c = sym (length-take-le _ (replicate 128 0) (omega (arith, (c .before) .digits .ensures .1)))
+
+ends-requires : tie.Need-ends-requires
+ends-requires c κs =
+    let d = (c .before) .digits .ensures in
+    let n = room-length ((c .before .before .before .before .before) .args .set .now) in
+    (pos-of-ne-zero (eqb-false _ 0 (sym ((c .before .before .before) .is-zero .ensures) ∙ (c .before .before) .if1 .left)), clear-planes _ ((c .before) .digits .result) 128 (rw n (d .0)) (omega (arith, d .1)))
+
+scan-requires : tie.Need-scan-requires
+scan-requires c κs = tt
+
+returns-2 : tie.Need-returns-2
+returns-2 c = (c .before .before) .ends .ensures _ (c .scan .ensures)
 
 pub best-counted-spec : {M : Type 1} → statement M
 best-counted-spec =
     tie.close
     (tie.spec
-    Inv-loop
-    μ-loop
-    loop-holds
     is-zero-requires
-    lowest-requires
-    count-ones-requires
-    sub-larger
-    larger-requires
-    better-requires
-    clear-lowest-requires
-    loop-less
-    loop-again
-    returns)
+    returns
+    digits-requires
+    mul-end
+    array-borrow-prefix-planes
+    slice-aggregate-ends
+    ends-requires
+    scan-requires
+    returns-2)
