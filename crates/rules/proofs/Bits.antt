@@ -2,8 +2,8 @@
 use mathlib.Core.Path.{_≡_, refl, sym, ap, ap₂, _∙_, subst}
 use mathlib.Core.Logic.{_≢_}
 use mathlib.Core.Bool.{false≢true, Bool, true, false, _&&_}
-use Prim.Native.Nat.{ℕ, zero, suc, _-_, _*_, _/_, _%_, _^_, _<_, suc-le-suc}
-use native.Mathlib.Nat.{le-refl, le-suc, le-trans, le-of-suc-le-suc, not-suc-le-zero, zero-lt-suc, zero-div, pow-suc, mod-lt}
+use Prim.Native.Nat.{ℕ, zero, suc, _-_, _*_, _/_, _%_, _^_, _≤_, _<_, zero-le, suc-le-suc}
+use native.Mathlib.Nat.{le-refl, le-suc, le-trans, le-of-suc-le-suc, not-suc-le-zero, zero-lt-suc, zero-div, div-one, pow-suc, mod-lt}
 use native.Mathlib.Numerals.{one-add}
 use native.Mathlib.Omega.{arith}
 use lib.Arith.{lt-one}
@@ -145,6 +145,29 @@ none-set (suc n) p h f =
   where
     one : p / 1 ≡ p
     one = omega arith
+
+    small : p / 2 < 2 ^ n
+    small = omega arith
+
+low-le : (d e : ℕ) → d < 2 → (isSet d ≡ true → isSet e ≡ true) → d ≤ e
+low-le zero e h f = zero-le
+low-le (suc d) zero h f = absurd (false≢true (f refl))
+low-le (suc d) (suc e) h f = omega arith
+
+-- a number whose digits are all set in another one is at most that
+pub bits-le : (n p q : ℕ) → p < 2 ^ n → ((i : ℕ) → i < n → bit p i ≡ true → bit q i ≡ true) → p ≤ q
+unfolding bit
+bits-le zero p q h f = rw (lt-one h) zero-le
+bits-le (suc n) p q h f =
+    let low : p % 2 ≤ q % 2 = low-le (p % 2) (q % 2) (mod-lt p (zero-lt-suc 1)) (λ e. one q (f zero (zero-lt-suc n) (one′ p e))) in
+    let high : p / 2 ≤ q / 2 = bits-le n (p / 2) (q / 2) small (λ i k e. sym (bit-suc q i) ∙ f (suc i) (suc-le-suc k) (bit-suc p i ∙ e)) in
+    omega arith
+  where
+    one : (m : ℕ) → isSet (m / 1 % 2) ≡ true → isSet (m % 2) ≡ true
+    one m e = ap (λ (z : ℕ). isSet (z % 2)) (sym (div-one m)) ∙ e
+
+    one′ : (m : ℕ) → isSet (m % 2) ≡ true → isSet (m / 1 % 2) ≡ true
+    one′ m e = ap (λ (z : ℕ). isSet (z % 2)) (div-one m) ∙ e
 
     small : p / 2 < 2 ^ n
     small = omega arith

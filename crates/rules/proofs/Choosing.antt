@@ -87,7 +87,7 @@ unfolding bit
 any c [] = false
 any c (t ∷ ts) = bit (t .parity) c || any c ts
 
-every-sides : (c : ℕ) (ts : List Term) → every c ts ≡ true → length (side false c ts) ≡ 0
+pub every-sides : (c : ℕ) (ts : List Term) → every c ts ≡ true → length (side false c ts) ≡ 0
 unfolding every side
 every-sides c [] e = refl
 every-sides c (t ∷ ts) e =
@@ -95,7 +95,7 @@ every-sides c (t ∷ ts) e =
     (λ f. rw f (every-sides c ts (rw f at e)))
     (λ f. absurd (false≢true (rw f at e)))
 
-any-sides : (c : ℕ) (ts : List Term) → any c ts ≡ false → length (side true c ts) ≡ 0
+pub any-sides : (c : ℕ) (ts : List Term) → any c ts ≡ false → length (side true c ts) ≡ 0
 unfolding any side
 any-sides c [] e = refl
 any-sides c (t ∷ ts) e =

@@ -28,7 +28,7 @@ unfolding crossNodes
 length-crossNodes p t [] = refl
 length-crossNodes p t (d ∷ st) = ap suc (length-crossNodes p t st)
 
-stairs-cross : (n p t : ℕ) (st : List Node) → Stairs n st → Stairs n (crossNodes p t st)
+pub stairs-cross : (n p t : ℕ) (st : List Node) → Stairs n st → Stairs n (crossNodes p t st)
 unfolding Stairs crossNodes
 stairs-cross n p t [] h = tt
 stairs-cross n p t (d ∷ st) h = ((h .0 .0, omega (arith, length-crossNodes p t st, h .0 .1)), stairs-cross n p t st (h .1))

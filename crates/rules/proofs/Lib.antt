@@ -22,6 +22,8 @@ pub mod Accepting
 pub mod Output
 pub mod Turning
 pub mod Choosing
+pub mod Narrowing
+pub mod Chain
 pub mod Cases
 pub mod Scanning
 pub mod Steps

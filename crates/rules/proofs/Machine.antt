@@ -23,7 +23,7 @@ crossStack [] st = st
 crossStack (cn p t ∷ ss) st = crossStack ss (crossNodes p t st)
 crossStack (rot q k ∷ ss) st = crossStack ss st
 
-cross-cons : (ss : List Step) (cs : ℕ) (a : Aim) (ts : List Term) (st : List Node) → crossStack ss (node cs a ts ∷ st) ≡ node cs a (crossAll ss ts) ∷ crossStack ss st
+pub cross-cons : (ss : List Step) (cs : ℕ) (a : Aim) (ts : List Term) (st : List Node) → crossStack ss (node cs a ts ∷ st) ≡ node cs a (crossAll ss ts) ∷ crossStack ss st
 unfolding crossStack crossAll
 cross-cons [] cs a ts st = refl
 cross-cons (cn p t ∷ ss) cs a ts st = cross-cons ss cs a (crossTerms p t ts) (crossNodes p t st)
@@ -188,7 +188,7 @@ unfolding walk
 walk-empty n zero = refl
 walk-empty n (suc f) = refl
 
-cross-empty : (ss : List Step) → crossStack ss [] ≡ []
+pub cross-empty : (ss : List Step) → crossStack ss [] ≡ []
 unfolding crossStack
 cross-empty [] = refl
 cross-empty (cn p t ∷ ss) = cross-empty ss

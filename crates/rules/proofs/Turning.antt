@@ -21,7 +21,7 @@ unfolding tally bit
 weight n [] = zero
 weight n (d ∷ st) = 3 * tally n (bit (d .cands)) * length (d .set) + 1 + length (pay (d .aim)) + weight n st
 
-weight-cross : (n p t : ℕ) (st : List Node) → weight n (crossNodes p t st) ≡ weight n st
+pub weight-cross : (n p t : ℕ) (st : List Node) → weight n (crossNodes p t st) ≡ weight n st
 unfolding weight crossNodes
 weight-cross n p t [] = refl
 weight-cross n p t (d ∷ st) = rw (length-cross p t (d .set), weight-cross n p t st)
@@ -58,7 +58,7 @@ turn-lighter n cs (on t) (e ∷ es) st h = open-lighter n cs (on t) e es st refl
 turn-lighter n cs (owes p t) (e ∷ es) st h = rw (weight-cross n p t st) (omega arith)
 
 -- fuel beyond the weight changes nothing
-walk-idle : (n f g : ℕ) (st : List Node) → Stairs n st → weight n st ≤ f → weight n st ≤ g → walk n f st ≡ walk n g st
+pub walk-idle : (n f g : ℕ) (st : List Node) → Stairs n st → weight n st ≤ f → weight n st ≤ g → walk n f st ≡ walk n g st
 unfolding walk weight Stairs
 walk-idle n zero zero st s h k = refl
 walk-idle n zero (suc g) [] s h k = refl
@@ -96,6 +96,16 @@ left-turn n d st s =
     ∙ ap (λ (ss : List Step). turn n d st .steps ++ ss)
     (walk-idle n m (weight n (turn n d st .stack)) (turn n d st .stack) (stairs-turn n (d .cands) (d .aim) (d .set) st s) (omega arith) (omega arith))
 
+-- the steps ss lead from a stack to another: they, and then what that has left, are what was left, and it is lighter
+pub record Leads (n : ℕ) (st : List Node) (ss : List Step) (su : List Node) : Type 0 where
+  pub whole : left n st ≡ ss ++ left n su
+  pub stairs : Stairs n su
+  pub lighter : weight n su < weight n st
+
+pub leads-turn : (n : ℕ) (d : Node) (st : List Node) → Stairs n (d ∷ st) → Leads n (d ∷ st) (turn n d st .steps) (turn n d st .stack)
+leads-turn n d st s =
+    record { whole = left-turn n d st s; stairs = stairs-turn n (d .cands) (d .aim) (d .set) st s; lighter = turn-lighter n (d .cands) (d .aim) (d .set) st s }
+
 -- the walk of document 01 is what its first node has left
 pub left-first : (n : ℕ) (ts : List Term) → phaseWalk n ts ≡ left n (node (2 ^ n - 1) free (nonzero ts) ∷ [])
 unfolding left phaseWalk
@@ -111,7 +121,7 @@ left-first n ts = walk-idle n (enough n (length (nonzero ts))) (weight n st) st 
 
 -- ---- the order within each set doesn't show
 
-weight-stacked : (n : ℕ) {st su : List Node} → Stacked st su → weight n st ≡ weight n su
+pub weight-stacked : (n : ℕ) {st su : List Node} → Stacked st su → weight n st ≡ weight n su
 unfolding weight
 weight-stacked n none = refl
 weight-stacked n (more h k) = rw (shuffled-length h, weight-stacked n k)

@@ -302,7 +302,7 @@ rest-off cs c e = bit-rest cs c c ∙ ap₂ _⊕_ e (eqb-self c)
 pub rest-other : (cs c t : ℕ) → bit cs c ≡ true → bit cs t ≡ false → bit (xor cs (2 ^ c)) t ≡ false
 rest-other cs c t e f = bit-rest cs c t ∙ ap₂ _⊕_ f (ne-eqb t c (λ q. true≢false (sym e ∙ ap (bit cs) (sym q) ∙ f)))
 
-rest-in : (cs c i : ℕ) → bit cs c ≡ true → bit (xor cs (2 ^ c)) i ≡ true → bit cs i ≡ true
+pub rest-in : (cs c i : ℕ) → bit cs c ≡ true → bit (xor cs (2 ^ c)) i ≡ true → bit cs i ≡ true
 rest-in cs c i e h = sym (with-c cs c i e) ∙ ap (λ (z : Bool). eqb i c || z) h ∙ or-true (eqb i c)
 
 pub fit-paid : (n cs : ℕ) (a : Aim) (ts : List Term) → Fit n cs a ts → Fit n cs (paid a) ts

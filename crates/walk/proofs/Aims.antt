@@ -1,15 +1,15 @@
 -- A slot's target and what it owes as document 01's aim, and the turn of a node by its aim.
-use mathlib.Core.Path.{_≡_, refl, sym, ap, _∙_}
+use mathlib.Core.Path.{_≡_, refl, ap, _∙_}
 use mathlib.Core.Logic.{_≢_}
-use mathlib.Core.Bool.{Bool, true, false, not, _&&_, cond, false≢true, true≢false}
+use mathlib.Core.Bool.{true, false, false≢true, true≢false}
 use mathlib.Core.List.{List, [], _∷_, append-nil}
-use Prim.Native.Nat.{ℕ, zero, suc, _%_, _^_, _<_}
+use Prim.Native.Nat.{ℕ, _%_, _^_, _<_}
 use native.Mathlib.Nat.{not-suc-le-zero}
 use native.Mathlib.Omega.{arith}
-use borrow.Author.Tests.{eq-eqb, ne-eqb, eqb-true, eqb-false}
+use borrow.Author.Tests.{eq-eqb, ne-eqb, eqb-false}
 use lib.ListN.{length, getD}
 use lib.Dec.{eqb}
-use Rattle.rules.specs.Bit.{xor}
+use Rattle.rules.specs.Bit.{bit, xor}
 use Rattle.rules.specs.Fold.{Term}
 use Rattle.rules.specs.Gate.{gate2, codeCnot}
 use Rattle.rules.specs.Walk.{Aim, free, on, owes, Node, side, best, turns, leaf, aimWith, isNone, crossNodes, turn}
@@ -17,8 +17,9 @@ use Rattle.rules.specs.Walk as Walk
 use Rattle.rules.specs.Synth.{rotation, emit}
 use Rattle.rules.proofs.Bits.{split}
 use Rattle.rules.proofs.Machine.{node}
-use Rattle.rules.proofs.Walking.{Settled}
+use Rattle.rules.proofs.Walking.{Settled, rest-off, rest-other}
 use Rattle.parity.specs.declared.Parity.{Parity}
+use Rattle.parity.specs.View.{val}
 use Rattle.walk.specs.declared.Slot.{Slot}
 use Rattle.walk.specs.Stack.{nothing, aimTo, aimOf, owing, Aimed, takes, leaves, paid}
 
@@ -54,11 +55,19 @@ module _ (s : Slot) where
         let f = ne-eqb c nothing (λ q. omega arith) in
         split (eqb (s .target) nothing) (λ e. rw e (rw f)) (λ e. rw e (rw (e, f)))
 
-    pub takes-aimed : (n : ℕ) → c < n → Aimed n s → Aimed n (takes s rest c)
-    takes-aimed n l a =
-        split (eqb (s .target) nothing)
-        (λ e. rw e (record { target = λ q. l; owed = λ q. absurd (q refl) }))
-        (λ e. rw e (record { target = a .target; owed = λ q. l }))
+    module _ (is : val rest ≡ xor (val (s .cands)) (2 ^ c)) (b : bit (val (s .cands)) c ≡ true) (n : ℕ) (a : Aimed n s) where
+      -- the target is none of the candidates that are left
+      still-apart : s .target ≢ nothing → bit (val rest) (s .target) ≡ false
+      still-apart q = ap (λ (v : ℕ). bit v (s .target)) is ∙ rest-other (val (s .cands)) c (s .target) b (a .apart q)
+
+      pub takes-aimed : c < n → Aimed n (takes s rest c)
+      takes-aimed l =
+          split (eqb (s .target) nothing)
+          (λ e. rw e (record { target = λ q. l; owed = λ q. absurd (q refl); apart = λ q. ap (λ (v : ℕ). bit v c) is ∙ rest-off (val (s .cands)) c b }))
+          (λ e. rw e (record { target = a .target; owed = λ q. l; apart = still-apart }))
+
+      pub leaves-aimed : (ones : ℕ) → Aimed n (leaves s rest ones)
+      leaves-aimed ones = record { target = a .target; owed = a .owed; apart = still-apart }
 
 pub settled-to : (t : ℕ) → Settled (aimTo t)
 settled-to t = split (eqb t nothing) (λ e. rw e tt) (λ e. rw e tt)

@@ -4,5 +4,7 @@ pub mod Summing
 pub mod Stacks
 pub mod Aims
 pub mod Splitting
+pub mod Making
+pub mod Chaining
 pub mod Steps
 pub mod Looping

@@ -1,16 +1,16 @@
 -- The stack in its rooms: its newest node, what a store or a CNOT does to it, and what a split makes of it.
 use mathlib.Core.Path.{_≡_, refl, sym, ap, ap₂, _∙_}
-use mathlib.Core.Bool.{Bool, true, false, not, _&&_, cond}
-use mathlib.Core.List.{List, [], _∷_, _++_, append-assoc}
+use mathlib.Core.List.{List, [], _∷_, _++_}
 use Prim.Native.Nat.{ℕ, zero, suc, _+_, _-_, _≤_, _<_}
-use native.Mathlib.Nat.{not-suc-le-zero, le-of-suc-le-suc}
+use native.Mathlib.Nat.{not-suc-le-zero}
 use native.Mathlib.Numerals.{add-one}
 use native.Mathlib.Omega.{arith}
 use lib.ListN.{length, getD, set, take, drop}
-use lib.Seq.{slice, take-take, getD-set-other, getD-set-same, length-take-le, take-at, drop-at}
+use lib.Seq.{slice, take-take, getD-set-other}
 use Rattle.rules.specs.Fold.{Term}
-use Rattle.rules.specs.Walk.{Node, crossTerms, crossNodes}
-use Rattle.rules.proofs.Machine.{node}
+use Rattle.rules.specs.Walk.{Step, cn, rot, Node, crossTerms}
+use Rattle.rules.proofs.Walking.{crossAll}
+use Rattle.rules.proofs.Machine.{node, crossStack, cross-cons, cross-empty}
 use Rattle.parity.specs.View.{val}
 use Rattle.walk.specs.declared.Slot.{Slot}
 use Rattle.walk.specs.Stack.{noSlot, aimOf, nodeOf, stackOf, Aimed, Sound}
@@ -34,6 +34,10 @@ slice-part (suc a) (suc e) (t ∷ ts) = ap (λ (k : ℕ). take k (drop a ts)) (l
   where
     less : (a e : ℕ) → suc e - suc a ≡ e - a
     less a e = omega arith
+
+-- of two lists that are the same from a on
+pub slice-rest : (a e : ℕ) (ts us : List Term) → drop a us ≡ drop a ts → slice a e us ≡ slice a e ts
+slice-rest a e ts us h = sym (slice-part a e us) ∙ ap (take (e - a)) h ∙ slice-part a e ts
 
 pub stack-length : (ss : List Slot) (d : ℕ) (ts : List Term) (end : ℕ) → length (stackOf ss d ts end) ≡ d
 unfolding stackOf
@@ -124,13 +128,28 @@ cross-drop p t zero ts = refl
 cross-drop p t (suc k) [] = refl
 cross-drop p t (suc k) (x ∷ ts) = cross-drop p t k ts
 
-pub stack-cross : (n p t : ℕ) (ss : List Slot) (d : ℕ) (ts us : List Term) (end : ℕ) → Sound n ss d end → take end us ≡ crossTerms p t (take end ts)
-    → stackOf ss d us end ≡ crossNodes p t (stackOf ss d ts end)
-unfolding stackOf Sound crossNodes
-stack-cross n p t ss zero ts us end k h = refl
-stack-cross n p t ss (suc d) ts us end k h =
-    let s = getD ss d noSlot in
-    let down : take (s .start) us ≡ crossTerms p t (take (s .start) ts) =
-    sym (take-take (s .start) end us (k .0)) ∙ ap (take (s .start)) h ∙ cross-take p t (s .start) (take end ts) ∙ ap (crossTerms p t) (take-take (s .start) end ts (k .0)) in
-    ap₂ (λ (set : List Term) (st : List Node). node (val (s .cands)) (aimOf s) set ∷ st) (ap (drop (s .start)) h ∙ cross-drop p t (s .start) (take end ts))
-    (stack-cross n p t ss d ts us (s .start) (k .1 .1) down)
+-- and so do several steps
+
+all-take : (ss : List Step) (k : ℕ) (ts : List Term) → take k (crossAll ss ts) ≡ crossAll ss (take k ts)
+unfolding crossAll
+all-take [] k ts = refl
+all-take (cn p t ∷ ss) k ts = all-take ss k (crossTerms p t ts) ∙ ap (crossAll ss) (cross-take p t k ts)
+all-take (rot q j ∷ ss) k ts = all-take ss k ts
+
+all-drop : (ss : List Step) (k : ℕ) (ts : List Term) → drop k (crossAll ss ts) ≡ crossAll ss (drop k ts)
+unfolding crossAll
+all-drop [] k ts = refl
+all-drop (cn p t ∷ ss) k ts = all-drop ss k (crossTerms p t ts) ∙ ap (crossAll ss) (cross-drop p t k ts)
+all-drop (rot q j ∷ ss) k ts = all-drop ss k ts
+
+pub stack-cross : (n : ℕ) (ss : List Step) (sl : List Slot) (d : ℕ) (ts us : List Term) (end : ℕ) → Sound n sl d end → take end us ≡ crossAll ss (take end ts)
+    → stackOf sl d us end ≡ crossStack ss (stackOf sl d ts end)
+unfolding stackOf Sound
+stack-cross n ss sl zero ts us end k h = sym (cross-empty ss)
+stack-cross n ss sl (suc d) ts us end k h =
+    let s = getD sl d noSlot in
+    let down : take (s .start) us ≡ crossAll ss (take (s .start) ts) =
+    sym (take-take (s .start) end us (k .0)) ∙ ap (take (s .start)) h ∙ all-take ss (s .start) (take end ts) ∙ ap (crossAll ss) (take-take (s .start) end ts (k .0)) in
+    ap₂ (λ (set : List Term) (st : List Node). node (val (s .cands)) (aimOf s) set ∷ st) (ap (drop (s .start)) h ∙ all-drop ss (s .start) (take end ts))
+    (stack-cross n ss sl d ts us (s .start) (k .1 .1) down)
+    ∙ sym (cross-cons ss (val (s .cands)) (aimOf s) (slice (s .start) end ts) (stackOf sl d ts (s .start)))

@@ -1,16 +1,19 @@
 -- Where the walk stands, and what one turn of it promises.
 use mathlib.Core.Path.{_≡_}
-use mathlib.Core.Bool.{Bool, true, false}
+use mathlib.Core.Bool.{Bool, true}
 use mathlib.Core.List.{List, [], _∷_}
 use Prim.Native.Nat.{ℕ, _+_, _*_, _^_, _≤_, _<_}
 use lib.IntN.{ℤ}
 use lib.ListN.{length, getD, set, take}
+use lib.Seq.{slice}
 use Rattle.rules.specs.Fold.{Term}
-use Rattle.rules.specs.Walk.{Step, cn, Node, crossTerms, Turn, turn, held}
+use Rattle.rules.specs.Walk.{Step, cn, Node, crossTerms, held}
 use Rattle.rules.specs.Close.{addTo}
 use Rattle.rules.specs.Budget.{Budget}
 use Rattle.rules.specs.Synth as Synth
 use Rattle.rules.proofs.Depth.{Stairs}
+use Rattle.rules.proofs.Turning.{Leads}
+use Rattle.rules.proofs.Chain.{run, flipTerms}
 use Rattle.rules.proofs.Shuffling.{Stacked}
 use Rattle.budget.specs.declared.Pushed.{Pushed}
 use Rattle.budget.specs.View.{view}
@@ -19,7 +22,7 @@ use Rattle.rows.specs.Rows.{rowsOf}
 use Rattle.emit.specs.Emitted.{Ready, Emits}
 use Rattle.walk.specs.declared.Slot.{Slot}
 use Rattle.walk.specs.declared.State.{State}
-use Rattle.walk.specs.Stack.{nodeWidth, slotsOf, stackOf, Sound, paid}
+use Rattle.walk.specs.Stack.{nodeWidth, slotsOf, stackOf, Sound, paid, Chosen}
 
 -- a block's wires by local index: at most 128, each a number that a gate can hold
 pub record Wires (names : List ℕ) : Type 0 where
@@ -57,16 +60,18 @@ pub record Standing (names : List ℕ) (p : Place) : Type 0 where
   pub many : length (p .rows) ≡ length names
   pub ready : Ready (p .out) (p .budget)
 
--- the turn of a stack, at its newest node
-abbrev pub nextOf : ℕ → List Node → Turn
-nextOf n [] = record { steps = []; stack = [] }
-nextOf n (d ∷ st) = turn n d st
+-- all the steps are emitted and the rows follow, or the budget is spent
+pub record Synthesized (names : List ℕ) (ss : List Step) (out : List ℤ) (b : Budget) (m : List ℕ) (out′ : List ℤ) (b′ : Budget) (m′ : List ℕ) (within : Bool) : Type 0 where
+  pub emits : Emits (Synth.emit names ss) out b out′ b′ within
+  pub rows : within ≡ true → m′ ≡ held ss m
 
--- from a place to that after one turn: its steps are emitted, and the nodes that then wait stand in the rooms, each set in some order
+-- from a place to that after some steps of its stack: they are made, and the nodes that then wait stand in the rooms, each set in some order
 pub record Stepped (names : List ℕ) (p q : Place) (within : Bool) : Type 0 where
-  pub emits : Emits (Synth.emit names (nextOf (length names) (stack p) .steps)) (p .out) (p .budget) (q .out) (q .budget) within
-  pub rows : within ≡ true → q .rows ≡ held (nextOf (length names) (stack p) .steps) (p .rows)
-  pub stack : Stacked (stackOf (q .slots) (q .depth) (q .terms) (q .end)) (nextOf (length names) (stackOf (p .slots) (p .depth) (p .terms) (p .end)) .stack)
+  pub steps : List Step
+  pub next : List Node
+  pub leads : Leads (length names) (stack p) steps next
+  pub made : Synthesized names steps (p .out) (p .budget) (p .rows) (q .out) (q .budget) (q .rows) within
+  pub stack : Stacked (stackOf (q .slots) (q .depth) (q .terms) (q .end)) next
   pub sound : Sound (length names) (q .slots) (q .depth) (q .end)
   pub fits : q .end ≤ length (q .terms)
 
@@ -77,6 +82,15 @@ pub record Paid (names : List ℕ) (d : Slot) (at : ℕ) (ts ts′ : List Term) 
   pub terms : Begins (crossTerms (d .owed) (d .target) (take (d .start) ts)) (d .start) (d .start) ts ts′
   pub slots : ss′ ≡ set ss at (paid d)
 
+-- the one term from `start` to `end` is run down to the column that is chosen: a CNOT from each of the mask, from the highest down, and the rotation.
+-- The terms before it take note.
+pub record Descends (names : List ℕ) (target live start end : ℕ) (ts ts′ : List Term) (m m′ : List ℕ) (out : List ℤ) (b : Budget) (out′ : List ℤ) (b′ : Budget) (within : Bool) : Type 0 where
+  pub column : ℕ
+  pub mask : ℕ
+  pub chosen : Chosen target live column mask
+  pub made : Synthesized names (run (length names) column mask (slice start end ts)) out b m out′ b′ m′ within
+  pub terms : Begins (flipTerms mask column (take start ts)) start start ts ts′
+
 -- what a walk over n columns is lent: the wires' names, room for a node more than there are columns, a row for each wire, and the block's own place in the output
 pub record Lent (n : ℕ) (names nodes held : List ℕ) (out : List ℤ) (b : Budget) : Type 0 where
   pub wires : Wires names
@@ -84,8 +98,3 @@ pub record Lent (n : ℕ) (names nodes held : List ℕ) (out : List ℤ) (b : Bu
   pub deep : nodeWidth * (n + 1) ≤ length nodes
   pub rows : length (rowsOf held) ≡ n
   pub ready : Ready out b
-
--- all the steps are emitted and the rows follow, or the budget is spent
-pub record Synthesized (names : List ℕ) (ss : List Step) (out : List ℤ) (b : Budget) (m : List ℕ) (out′ : List ℤ) (b′ : Budget) (m′ : List ℕ) (within : Bool) : Type 0 where
-  pub emits : Emits (Synth.emit names ss) out b out′ b′ within
-  pub rows : within ≡ true → m′ ≡ held ss m

@@ -1,18 +1,19 @@
 -- The stack of waiting nodes in a lent room, five numbers to a node, and the sets side by side in the room of terms, the newest last.
 use mathlib.Core.Path.{_≡_}
 use mathlib.Core.Logic.{_≢_}
-use mathlib.Core.Bool.{Bool, not, _&&_, cond}
+use mathlib.Core.Bool.{Bool, false, not, _&&_, cond}
 use mathlib.Core.List.{List, [], _∷_}
 use Prim.Native.Nat.{ℕ, zero, suc, _+_, _^_, _≤_, _<_}
 use lib.ListN.{getD, set}
 use lib.Seq.{slice}
 use lib.Dec.{eqb}
-use Rattle.rules.specs.Bit.{xor}
+use Rattle.rules.specs.Bit.{bit, xor}
 use Rattle.rules.specs.Fold.{Term}
 use Rattle.rules.specs.Walk.{Aim, free, on, owes, Node}
 use Rattle.rules.proofs.Machine.{node}
 use Rattle.parity.specs.declared.Parity.{Parity}
 use Rattle.parity.specs.View.{val}
+use Rattle.parity.specs.Columns.{HighestIs}
 use Rattle.terms.specs.Terms.{SplitAt}
 use Rattle.column.specs.Choice.{Best}
 use Rattle.walk.specs.declared.Slot.{Slot}
@@ -58,10 +59,11 @@ unfoldable pub stackOf : List Slot → ℕ → List Term → ℕ → List Node
 stackOf ss zero ts end = []
 stackOf ss (suc d) ts end = let s = getD ss d noSlot in nodeOf s ts end ∷ stackOf ss d ts (s .start)
 
--- the columns of a slot are among n
+-- the columns of a slot are among n, and its target is no candidate
 pub record Aimed (n : ℕ) (s : Slot) : Type 0 where
   pub target : s .target ≢ nothing → s .target < n
   pub owed : s .owed ≢ nothing → s .owed < n
+  pub apart : s .target ≢ nothing → bit (val (s .cands)) (s .target) ≡ false
 
 -- of the first `depth` nodes each set begins where the one before it ends, and the columns are among n
 unfoldable pub Sound : ℕ → List Slot → ℕ → ℕ → Type 0
@@ -83,6 +85,10 @@ leaves s rest ones = record { cands = rest; target = s .target; owed = s .owed; 
 abbrev pub paid : Slot → Slot
 paid s = record { cands = s .cands; target = s .target; owed = nothing; start = s .start }
 
+-- only these candidates are left
+abbrev pub narrowed : Slot → Parity → Slot
+narrowed s live = record { cands = live; target = s .target; owed = s .owed; start = s .start }
+
 -- the node with which the walk begins
 abbrev pub first : Parity → Slot
 first cands = record { cands = cands; target = nothing; owed = nothing; start = 0 }
@@ -96,3 +102,14 @@ pub record Branched (s : Slot) (at end : ℕ) (ts ts′ : List Term) (ss ss′ :
   pub rest : Parity
   pub less : val rest ≡ xor (val (s .cands)) (2 ^ column)
   pub slots : ss′ ≡ set (set ss at (takes s rest column)) (at + 1) (leaves s rest ones)
+
+-- the highest column of a mask, and the others
+pub record Peeled (mask column others : ℕ) : Type 0 where
+  pub high : HighestIs mask column
+  pub rest : others ≡ xor mask (2 ^ column)
+
+-- the column that takes the rotation of a one-term node, and those that are added to it: its target and its live candidates or, with no target yet, the highest
+-- of them and the others
+pub record Chosen (target live column mask : ℕ) : Type 0 where
+  pub given : target ≢ nothing → (column ≡ target) × (mask ≡ live)
+  pub taken : target ≡ nothing → Peeled live column mask

@@ -8,18 +8,20 @@ ghost use mathlib.Core.Logic.{_≢_};
 ghost use mathlib.Core.List.{[], _∷_};
 ghost use Prim.Native.Nat.{_+_, _-_, _%_, _^_, _<_, _≤_};
 ghost use lib.ListN.{length, getD, set};
+ghost use Rattle.rules.specs.Bit.{xor};
 ghost use Rattle.rules.specs.Walk.{free, turns, leaf};
 ghost use Rattle.rules.specs.Synth as Synth;
 ghost use Rattle.rules.proofs.Machine.{node};
 ghost use Rattle.rules.proofs.Turning.{left};
+ghost use Rattle.rules.proofs.Chain.{downs};
 ghost use Rattle.parity.specs.View.{val};
 ghost use Rattle.budget.specs.View.{view};
 ghost use Rattle.terms.specs.Terms.{termsOf};
 ghost use Rattle.rows.specs.Rows.{rowsOf};
 ghost use Rattle.emit.specs.Emitted.{Ready, Emits};
-ghost use Rattle.walk.specs.Stack.{nothing, slotsOf, noSlot, aimTo, Branched};
+ghost use Rattle.walk.specs.Stack.{nothing, slotsOf, noSlot, aimTo, Branched, Peeled, Chosen};
 ghost use Rattle.walk.specs.Stack as Stack;
-ghost use Rattle.walk.specs.Place.{Wires, placeOf, Standing, Stepped, Paid, Lent, stateOf, Synthesized};
+ghost use Rattle.walk.specs.Place.{Wires, placeOf, Standing, Stepped, Paid, Descends, Lent, stateOf, Synthesized};
 
 // Numbers to a node: its candidates' low and high word, its target, the control that it owes, where its set begins.
 pub const NODE_WIDTH: usize = 5;
@@ -118,6 +120,19 @@ fn paid(d: Slot) -> Slot
     }
 }
 
+// Only these candidates are left.
+fn narrowed(d: Slot, live: Parity) -> Slot
+    ensures { λ r. ⌜ r ≡ Stack.narrowed d live ⌝ }
+{
+    let cands = live;
+    Slot {
+        cands,
+        target: d.target,
+        owed: d.owed,
+        start: d.start,
+    }
+}
+
 // The owed control of the node at the place `at` is paid: the CNOT is emitted, its row added, and the terms of every waiting node take note.
 pub fn pay(
     room: &mut [u64],
@@ -203,6 +218,110 @@ pub fn branch(room: &mut [u64], nodes: &mut [u64], at: usize, d: Slot, end: usiz
     put(&mut *nodes, above, without);
 }
 
+// A column, and the others of its mask.
+pub struct Taken {
+    pub column: u32,
+    pub mask: Parity,
+}
+
+// A mask without one of its columns.
+fn without(mask: Parity, column: u32) -> Parity
+    requires { ⌜ column < 128 ⌝ }
+    ensures { λ r. ⌜ val r ≡ xor (val mask) (2 ^ column) ⌝ }
+{
+    mask.xor(Parity::single(column))
+}
+
+// The highest column of a mask is taken out.
+fn take_highest(mask: Parity) -> Taken
+    ensures { λ r. ⌜ Peeled (val mask) (r .column) (val (r .mask)) ⌝ }
+{
+    let column = mask.highest();
+    let rest = without(mask, column);
+    Taken { column, mask: rest }
+}
+
+// Where a node of one term goes: its target with the live candidates or, with no target yet, the highest of these with the others.
+fn choose(target: u64, live: Parity) -> Taken
+    requires { ⌜ (target ≢ nothing → target < 128) ⌝ }
+    ensures { λ r. ⌜ Chosen target (val live) (r .column) (val (r .mask)) ⌝ }
+{
+    if target == NONE {
+        take_highest(live)
+    } else {
+        let column = target as u32;
+        Taken { column, mask: live }
+    }
+}
+
+// A CNOT to t from each column of the mask, from the highest down: each is emitted and its row added, as long as the budget is kept.
+pub fn chain(
+    held: &mut [u64],
+    names: &[u32],
+    out: &mut [i32],
+    b: Budget,
+    mask: Parity,
+    t: u32,
+) -> Pushed
+    requires { ⌜ Wires (now names) ⌝ }
+    requires { ⌜ (t < length (now names)) × (val mask < 2 ^ length (now names)) ⌝ }
+    requires { ⌜ length (rowsOf (now held)) ≡ length (now names) ⌝ }
+    requires { ⌜ Ready (now out) (view b) ⌝ }
+    ensures { λ r. ⌜ Synthesized (now (names .entry)) (downs (length (now (names .entry))) t (val mask)) (now (out .entry)) (view b) (rowsOf (now (held .entry))) (now (out .exit)) (view (r .budget)) (rowsOf (now (held .exit))) (r .within) ⌝ }
+{
+    let target = join::wire_of(names, Local(t));
+    let mut rest = mask;
+    let mut w = Pushed {
+        budget: b,
+        within: true,
+    };
+    while !rest.is_zero() & w.within {
+        let next = take_highest(rest);
+        let c = next.column;
+        let control = join::wire_of(names, Local(c));
+        w = emit::emit_cnot(&mut *out, w.budget, control, target);
+        rows::add(&mut *held, c as usize, t as usize);
+        rest = next.mask;
+    }
+    w
+}
+
+// A node of one term is run down at once: a CNOT from each live column to its target, and the rotation. The terms of the waiting nodes are flipped by
+// all the columns in one pass, which is right because none of them is the target; it comes first, so that it is made though the budget is spent.
+pub fn run_down(
+    room: &mut [u64],
+    held: &mut [u64],
+    names: &[u32],
+    out: &mut [i32],
+    b: Budget,
+    start: usize,
+    end: usize,
+    target: u64,
+    live: Parity,
+) -> Pushed
+    requires { ⌜ Wires (now names) ⌝ }
+    requires { ⌜ (target ≢ nothing → target < length (now names)) × ((val live ≢ 0) × (val live < 2 ^ length (now names))) ⌝ }
+    requires { ⌜ length (rowsOf (now held)) ≡ length (now names) ⌝ }
+    requires { ⌜ (start ≤ end) × (end ≤ length (termsOf (now room))) ⌝ }
+    requires { ⌜ Ready (now out) (view b) ⌝ }
+    ensures { λ r. ⌜ Descends (now (names .entry)) target (val live) start end (termsOf (now (room .entry))) (termsOf (now (room .exit))) (rowsOf (now (held .entry))) (rowsOf (now (held .exit))) (now (out .entry)) (view b) (now (out .exit)) (view (r .budget)) (r .within) ⌝ }
+{
+    let goal = choose(target, live);
+    let t = goal.column;
+    terms::flip_by(&mut *room, start, goal.mask, t);
+    let w = chain(&mut *held, names, &mut *out, b, goal.mask, t);
+    if w.within {
+        return end_leaf(
+            &room[3 * start..3 * end],
+            t as u64,
+            names,
+            &mut *out,
+            w.budget,
+        );
+    }
+    w
+}
+
 // The state after a turn.
 fn after(depth: usize, end: usize, w: Pushed) -> State
     ensures { λ r. ⌜ r ≡ stateOf depth end w ⌝ }
@@ -216,7 +335,8 @@ fn after(depth: usize, end: usize, w: Pushed) -> State
     }
 }
 
-// One turn of the walk, at the newest node, by document 01's four rules.
+// One turn of the walk, at the newest node, by document 01's four rules. Candidates that no term of its set has are dropped before the last two:
+// a split by such a column would only take the column out. Those of a node of one term are then all columns of it, and all its turns are made at once.
 pub fn step(
     room: &mut [u64],
     nodes: &mut [u64],
@@ -244,11 +364,16 @@ pub fn step(
         let w = pay(room, nodes, held, names, out, b, at, d);
         return after(s.depth, end, w);
     }
-    if d.cands.is_zero() {
+    let live = column::seen(&room[3 * d.start..3 * end], d.cands);
+    if live.is_zero() {
         let w = end_leaf(&room[3 * d.start..3 * end], d.target, names, out, b);
         return after(at, d.start, w);
     }
-    branch(room, nodes, at, d, end);
+    if end - d.start == 1 {
+        let w = run_down(room, held, names, out, b, d.start, end, d.target, live);
+        return after(at, d.start, w);
+    }
+    branch(room, nodes, at, narrowed(d, live), end);
     after(s.depth + 1, end, quiet)
 }
 

@@ -2,22 +2,19 @@
 -- The measure is the turns left.
 use mathlib.Core.Path.{_≡_, refl, ap, _∙_}
 use mathlib.Core.Bool.{true}
-use Prim.Native.Nat.{ℕ, _+_, _/_, _≤_, _<_}
+use Prim.Native.Nat.{_+_, _/_, _≤_, _<_}
 use native.Mathlib.Omega.{arith}
-use borrow.Author.Needs.{needs}
 use borrow.Author.Tests.{ltb-true}
-use mathlib.Core.List.{List}
 use lib.ListN.{length, set}
 use lib.Dec.{ltb}
 use Rattle.terms.specs.Terms.{termsOf}
 use Rattle.rules.proofs.Bits.{and-left, and-right}
 use Rattle.rules.proofs.Turning.{left}
 use Rattle.terms.proofs.Room.{room-length}
-use Rattle.rows.specs.Rows.{rowsOf}
-use Rattle.rows.proofs.Room.{row-count}
 use Rattle.walk.specs.Stack.{slotsOf, first}
 use Rattle.walk.specs.Place.{stack, placeOf}
 use Rattle.walk.proofs.Slots.{slot-length, slot-wide}
+use Rattle.walk.proofs.Chaining.{rows-same}
 use Rattle.walk.proofs.Looping.{Walked, walk-first, walk-standing, walk-lighter, walk-next, ahead, ahead-less, walk-end, first-left, first-standing}
 use Rattle.walk.proofs.gray_synth.Statement.{statement}
 use Rattle.walk.proofs.gray_synth.Tie as tie
@@ -34,9 +31,6 @@ abbrev μ-loop : tie.MeasureT-loop
 
 wide : (s : tie.Start Inv-loop μ-loop) → length (s .args .names .now) + 1 ≤ length (slotsOf (s .args .nodes .now))
 wide s = omega (arith, s .pre .deep, s .pre .many, slot-length (s .args .nodes .now))
-
-rows-same : (xs ys : List ℕ) → length xs ≡ length ys → length (rowsOf xs) ≡ length (rowsOf ys)
-rows-same xs ys e = omega (arith, row-count xs, row-count ys)
 
 -- the test: a node waits, and the budget is kept
 
@@ -71,14 +65,14 @@ step-requires c κs = (walk-standing _ _ _ _ _ ((c .before .before .before .befo
 
 loop-less : tie.Need-loop-less Inv-loop μ-loop
 loop-less c =
-    ahead-less _ _ _ _ _ (keeps (c .before .before .before .before .before .before .before .before .before .before .before .before)) (walk-lighter _ _ _ _ _ ((c .before .before .before .before .before .before .before .before .before .before .before .before .before .before .before) .loop .inv .0) (keeps (c .before .before .before .before .before .before .before .before .before .before .before .before)) (waits (c .before .before .before .before .before .before .before .before .before .before .before .before)) _ _ ((c .before .before .before .before .before .before .before) .step .ensures))
+    ahead-less _ _ _ _ _ (keeps (c .before .before .before .before .before .before .before .before .before .before .before .before)) (walk-lighter _ _ _ _ _ ((c .before .before .before .before .before .before .before .before .before .before .before .before .before .before .before) .loop .inv .0) (keeps (c .before .before .before .before .before .before .before .before .before .before .before .before)) _ _ ((c .before .before .before .before .before .before .before) .step .ensures))
 
 loop-again : tie.Need-loop-again Inv-loop μ-loop
 loop-again c =
     let l = (c .before .before .before .before .before .before .before .before .before .before .before .before .before .before .before) .loop in
     let k = (c .before .before .before .before .before .before .before) .step .kept in
     let st = walk-standing _ _ _ _ _ (l .inv .0) (keeps (c .before .before .before .before .before .before .before .before .before .before .before .before)) in (
-      walk-next _ _ _ _ _ (l .inv .0) (keeps (c .before .before .before .before .before .before .before .before .before .before .before .before)) (waits (c .before .before .before .before .before .before .before .before .before .before .before .before)) _ _ ((c .before .before .before .before .before .before .before) .step .ensures) (slot-wide _ (l .nodes) _ (k .1 .0) (st .wide)) (rows-same _ (l .held) (k .1 .1 .0) ∙ st .many),
+      walk-next _ _ _ _ _ (l .inv .0) (keeps (c .before .before .before .before .before .before .before .before .before .before .before .before)) _ _ ((c .before .before .before .before .before .before .before) .step .ensures) (slot-wide _ (l .nodes) _ (k .1 .0) (st .wide)) (rows-same _ (l .held) (k .1 .1 .0) ∙ st .many),
       (k .0 ∙ l .inv .1 .0, (k .1 .0 ∙ l .inv .1 .1 .0, (k .1 .1 .0 ∙ l .inv .1 .1 .1 .0, k .1 .1 .1 .1 .0 ∙ l .inv .1 .1 .1 .1))),
     )
 
