@@ -1,1 +1,1 @@
-pub mod Flowing
+pub mod Cases

@@ -5,8 +5,8 @@
 // place of a refusal, or the eight counts and the new gates.
 use cnot_min::Answer;
 use cnot_min::Counts;
+use flow::Flow;
 use gate::Refusal;
-use libc::STDIN_FILENO;
 use libc::STDOUT_FILENO;
 use rules::GATE_TERMS;
 use rules::GATE_WIDTH;
@@ -17,7 +17,8 @@ ghost use mathlib.Core.Path.{_≡_};
 ghost use mathlib.Core.Bool.{true};
 ghost use Prim.Native.Nat.{_+_, _*_, _≤_, _<_};
 ghost use lib.ListN.{length};
-ghost use Rattle.batch_main.specs.Flowing.{Sound, Small, Taken};
+ghost use Rattle.flow.specs.Flowing.{Sound};
+ghost use Rattle.batch_main.specs.Cases.{Small, Taken};
 
 // A little more than 8,192 gates, and the rooms that so many need.
 const MOST_NUMBERS: usize = 41000;
@@ -27,15 +28,6 @@ const MOST_TERMS: usize = 74000;
 const MOST_STEPS: usize = 17000;
 
 const HEAD: usize = 64;
-
-// The bytes of the input from `at` to `end` wait to be used, the first `used` bytes of the output to be written. A proved loop has to end: `left`
-// counts the cases down from a number that no run uses up, and is 0 once the input has ended.
-struct Flow {
-    at: usize,
-    end: usize,
-    used: usize,
-    left: u64,
-}
 
 struct Case {
     wires: usize,
@@ -54,251 +46,22 @@ struct Ready {
     flow: Flow,
 }
 
-// ---- numbers and bytes
-
-// The number of four bytes, the lowest first.
-fn joined(a: u8, b: u8, c: u8, d: u8) -> u32 {
-    a as u32 | ((b as u32) << 8) | ((c as u32) << 16) | ((d as u32) << 24)
-}
-
-// Number i of the bytes, 32 bits each.
-fn word(bytes: &[u8], i: usize) -> u32
-    requires { ⌜ 4 * i + 4 ≤ length (now bytes) ⌝ }
-{
-    let at = 4 * i;
-    joined(bytes[at], bytes[at + 1], bytes[at + 2], bytes[at + 3])
-}
-
-// Number i of the bytes, 64 bits each.
-fn long(bytes: &[u8], i: usize) -> usize
-    requires { ⌜ 8 * i + 8 ≤ length (now bytes) ⌝ }
-{
-    let low = word(bytes, 2 * i) as usize;
-    low | ((word(bytes, 2 * i + 1) as usize) << 32)
-}
-
-// The signed number with the same bits, and back.
-fn signed(x: u32) -> i32 {
-    if x < 2147483648 {
-        x as i32
-    } else {
-        !((4294967295 - x) as i32)
-    }
-}
-
-fn unsigned(v: i32) -> u32 {
-    if v < 0 { !gate::nat(!v) } else { gate::nat(v) }
-}
+// ---- a case and its answer
 
 fn case_at(bytes: &[u8]) -> Case
     requires { ⌜ 64 ≤ length (now bytes) ⌝ }
 {
     Case {
-        wires: long(bytes, 0),
-        bits: long(bytes, 1),
-        qcap: long(bytes, 2),
-        tcap: long(bytes, 3),
-        list: long(bytes, 4),
-        out: long(bytes, 5),
-        terms: long(bytes, 6),
-        steps: long(bytes, 7),
+        wires: flow::long(bytes, 0),
+        bits: flow::long(bytes, 1),
+        qcap: flow::long(bytes, 2),
+        tcap: flow::long(bytes, 3),
+        list: flow::long(bytes, 4),
+        out: flow::long(bytes, 5),
+        terms: flow::long(bytes, 6),
+        steps: flow::long(bytes, 7),
     }
 }
-
-// The list's numbers.
-fn load(bytes: &[u8], list: &mut [i32])
-    requires { ⌜ 4 * length (now list) ≤ length (now bytes) ⌝ }
-{
-    for i in 0..list.len() {
-        list[i] = signed(word(bytes, i));
-    }
-}
-
-fn least(a: usize, b: usize) -> usize
-    ensures { λ r. ⌜ (r ≤ a) × (r ≤ b) ⌝ }
-{
-    if a < b { a } else { b }
-}
-
-// ---- the input, read as it comes
-
-// The waiting bytes, moved to the front.
-fn shift(input: &mut [u8], at: usize, end: usize)
-    requires { ⌜ (at ≤ end) × (end ≤ length (now input)) ⌝ }
-{
-    for i in at..end {
-        input[i - at] = input[i];
-    }
-}
-
-// One read behind the bytes that are there: where they end then.
-fn read_on(input: &mut [u8], end: usize) -> usize
-    requires { ⌜ end ≤ length (now input) ⌝ }
-    ensures { λ r. ⌜ (end ≤ r) × (r ≤ length (now (input .entry))) ⌝ }
-{
-    let part = &mut input[end..];
-    let got = libc::read(STDIN_FILENO, part);
-    end + io::count(got, part)
-}
-
-// Reads until there are n bytes or the input ends: where they end then.
-fn read_up(input: &mut [u8], from: usize, n: usize) -> usize
-    requires { ⌜ from ≤ length (now input) ⌝ }
-    ensures { λ r. ⌜ r ≤ length (now (input .entry)) ⌝ }
-{
-    let mut end = from;
-    while end < n {
-        let next = read_on(&mut *input, end);
-        if next == end {
-            return end;
-        }
-        end = next;
-    }
-    end
-}
-
-// The flow with n bytes that wait, if so many still come. What was answered is written before the program waits.
-fn fill(input: &mut [u8], output: &[u8], f: Flow, n: usize) -> Flow
-    requires { ⌜ Sound f (length (now input)) (length (now output)) ⌝ }
-    ensures { λ r. ⌜ Sound r (length (now (input .entry))) (length (now (output .entry))) × (r .left ≡ f .left) ⌝ }
-{
-    let at = f.at;
-    let end = f.end;
-    let used = f.used;
-    if n <= end - at {
-        return f;
-    }
-    io::write_all(STDOUT_FILENO, &output[..used]);
-    shift(input, at, end);
-    Flow {
-        at: 0,
-        end: read_up(input, end - at, n),
-        used: 0,
-        left: f.left,
-    }
-}
-
-// ---- the output
-
-// The number behind the bytes that wait, which are written first where there is no room: how many wait then.
-fn put(output: &mut [u8], used: usize, x: u32) -> usize
-    requires { ⌜ (used ≤ length (now output)) × (4 ≤ length (now output)) ⌝ }
-    ensures { λ r. ⌜ r ≤ length (now (output .entry)) ⌝ }
-{
-    let at = room(output, used);
-    output[at] = (x % 256) as u8;
-    output[at + 1] = (x / 256 % 256) as u8;
-    output[at + 2] = (x / 65536 % 256) as u8;
-    output[at + 3] = (x / 16777216) as u8;
-    at + 4
-}
-
-fn room(output: &[u8], used: usize) -> usize
-    requires { ⌜ (used ≤ length (now output)) × (4 ≤ length (now output)) ⌝ }
-    ensures { λ r. ⌜ r + 4 ≤ length (now (output .entry)) ⌝ }
-{
-    if 4 <= output.len() - used {
-        return used;
-    }
-    io::write_all(STDOUT_FILENO, &output[..used]);
-    0
-}
-
-// Each number, its lowest 32 bits.
-fn put_counts(output: &mut [u8], used: usize, counts: &[usize]) -> usize
-    requires { ⌜ (used ≤ length (now output)) × (4 ≤ length (now output)) ⌝ }
-    ensures { λ r. ⌜ r ≤ length (now (output .entry)) ⌝ }
-{
-    let mut at = used;
-    for i in 0..counts.len() {
-        at = put(&mut *output, at, (counts[i] % 4294967296) as u32);
-    }
-    at
-}
-
-fn put_numbers(output: &mut [u8], used: usize, list: &[i32]) -> usize
-    requires { ⌜ (used ≤ length (now output)) × (4 ≤ length (now output)) ⌝ }
-    ensures { λ r. ⌜ r ≤ length (now (output .entry)) ⌝ }
-{
-    let mut at = used;
-    for i in 0..list.len() {
-        at = put(&mut *output, at, unsigned(list[i]));
-    }
-    at
-}
-
-// ---- the rooms: filled with marks, none of them 0, and looked at afterwards
-
-// What is due at a place of a room: 0 below `to`, and its mark from there on.
-fn due_out(i: usize, to: usize) -> i32 {
-    if i < to { 0 } else { !((i % 65536) as i32) }
-}
-
-fn due_term(i: usize, to: usize) -> u64 {
-    if i < to {
-        0
-    } else {
-        18446744073709551615 - (i % 65536) as u64
-    }
-}
-
-fn due_step(i: usize, to: usize) -> u32 {
-    if i < to {
-        0
-    } else {
-        4294967295 - (i % 65536) as u32
-    }
-}
-
-fn mark_out(room: &mut [i32]) {
-    for i in 0..room.len() {
-        room[i] = due_out(i, 0);
-    }
-}
-
-fn mark_terms(room: &mut [u64]) {
-    for i in 0..room.len() {
-        room[i] = due_term(i, 0);
-    }
-}
-
-fn mark_steps(room: &mut [u32]) {
-    for i in 0..room.len() {
-        room[i] = due_step(i, 0);
-    }
-}
-
-// Whether a room has what is due, the output from `from` on.
-fn out_right(room: &[i32], from: usize, to: usize) -> bool {
-    let mut right = true;
-    for i in from..room.len() {
-        right = right & gate::same(room[i], due_out(i, to));
-    }
-    right
-}
-
-fn terms_right(room: &[u64], to: usize) -> bool {
-    let mut right = true;
-    for i in 0..room.len() {
-        right = right & (room[i] == due_term(i, to));
-    }
-    right
-}
-
-fn steps_right(room: &[u32], to: usize) -> bool {
-    let mut right = true;
-    for i in 0..room.len() {
-        right = right & (room[i] == due_step(i, to));
-    }
-    right
-}
-
-// The sum of 1, 2 and 4 for the rooms that are right.
-fn rooms_right(out: bool, terms: bool, steps: bool) -> usize {
-    out as usize | ((terms as usize) << 1) | ((steps as usize) << 2)
-}
-
-// ---- a case and its answer
 
 // A refusal, which leaves every room as it was.
 fn tell_refused(
@@ -312,13 +75,13 @@ fn tell_refused(
     requires { ⌜ (used ≤ length (now output)) × (4 ≤ length (now output)) ⌝ }
     ensures { λ r. ⌜ r ≤ length (now (output .entry)) ⌝ }
 {
-    let right = rooms_right(
-        out_right(out, 0, 0),
-        terms_right(terms, 0),
-        steps_right(steps, 0),
+    let right = marks::rooms_right(
+        marks::out_right(out, 0, 0),
+        marks::terms_right(terms, 0),
+        marks::steps_right(steps, 0),
     );
     let told = [r.number as usize, right, r.place];
-    put_counts(output, used, &told)
+    flow::put_counts(output, used, &told)
 }
 
 // The counts and the new gates of a list of g gates, which leaves 0 behind them and in the part of the work rooms that it needs.
@@ -335,11 +98,11 @@ fn tell_done(
     requires { ⌜ (used ≤ length (now output)) × (4 ≤ length (now output)) ⌝ }
     ensures { λ r. ⌜ r ≤ length (now (output .entry)) ⌝ }
 {
-    let end = least(GATE_WIDTH * least(c.gatesout, g), out.len());
-    let right = rooms_right(
-        out_right(out, end, GATE_WIDTH * g),
-        terms_right(terms, TERM_WIDTH * (GATE_TERMS * g)),
-        steps_right(steps, STEP_WIDTH * (g + MAX_COLUMNS)),
+    let end = flow::least(GATE_WIDTH * flow::least(c.gatesout, g), out.len());
+    let right = marks::rooms_right(
+        marks::out_right(out, end, GATE_WIDTH * g),
+        marks::terms_right(terms, TERM_WIDTH * (GATE_TERMS * g)),
+        marks::steps_right(steps, STEP_WIDTH * (g + MAX_COLUMNS)),
     );
     let told = [
         0,
@@ -353,8 +116,8 @@ fn tell_done(
         c.blocks,
         c.replaced,
     ];
-    let at = put_counts(&mut *output, used, &told);
-    put_numbers(output, at, &out[..end])
+    let at = flow::put_counts(&mut *output, used, &told);
+    flow::put_numbers(output, at, &out[..end])
 }
 
 fn tell(
@@ -390,9 +153,9 @@ fn answer(
     requires { ⌜ (used ≤ length (now output)) × (4 ≤ length (now output)) ⌝ }
     ensures { λ r. ⌜ r ≤ length (now (output .entry)) ⌝ }
 {
-    mark_out(&mut *out);
-    mark_terms(&mut *terms);
-    mark_steps(&mut *steps);
+    marks::mark_out(&mut *out);
+    marks::mark_terms(&mut *terms);
+    marks::mark_steps(&mut *steps);
     let a = cnot_min::cnot_min_with(
         list,
         c.wires,
@@ -463,7 +226,7 @@ fn take_list(input: &mut [u8], output: &[u8], c: Case, f: Flow) -> Ready
     ensures { λ r. ⌜ Taken r f (length (now (input .entry))) (length (now (output .entry))) ⌝ }
 {
     let whole = HEAD + 4 * c.list;
-    let b = fill(input, output, f, whole);
+    let b = flow::fill(input, output, f, whole);
     if b.end - b.at < whole {
         return none(b);
     }
@@ -475,7 +238,7 @@ fn take(input: &mut [u8], output: &[u8], f: Flow) -> Ready
     requires { ⌜ Sound f (length (now input)) (length (now output)) ⌝ }
     ensures { λ r. ⌜ Taken r f (length (now (input .entry))) (length (now (output .entry))) ⌝ }
 {
-    let h = fill(&mut *input, output, f, HEAD);
+    let h = flow::fill(&mut *input, output, f, HEAD);
     let at = h.at;
     let end = h.end;
     if end - at < HEAD {
@@ -505,7 +268,7 @@ fn solve(
     ensures { λ r. ⌜ r ≤ length (now (output .entry)) ⌝ }
 {
     let n = c.list;
-    load(bytes, &mut list[..n]);
+    flow::load(bytes, &mut list[..n]);
     answer(
         &list[..n],
         c,

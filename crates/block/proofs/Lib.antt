@@ -3,6 +3,5 @@ pub mod Rowing
 pub mod Entering
 pub mod Folding
 pub mod Codes
-pub mod Taking
 pub mod Using
 pub mod Parts

@@ -5,7 +5,6 @@ use mathlib.Core.List.{List, [], _∷_, _++_, append-assoc, append-nil}
 use Prim.Native.Nat.{ℕ, zero, suc, _+_, _-_, _*_, _≤_, _<_}
 use native.Mathlib.Omega.{arith}
 use lib.IntN.{ℤ}
-use mir.Val.{boolByte}
 use lib.ListN.{length, getD, length-append}
 use Rattle.rules.specs.Limits.{maxColumns}
 use Rattle.rules.specs.Gate.{Gate}
@@ -16,6 +15,7 @@ use Rattle.rules.specs.Fold.{empty}
 use Rattle.rules.specs.Synth.{blockOf, resynthesis}
 use Rattle.rules.specs.Scan.{takes, cut, Writer, chosen, replaces, Result, finish}
 use Rattle.rules.proofs.Bits.{split}
+use Rattle.rules.proofs.Flags.{byte-cond, byte-le}
 use Rattle.rules.proofs.Reading.{numbers-append, from-length}
 use Rattle.rules.proofs.Passing.{chosen-thrifty, thrifty-le}
 use Rattle.rules.proofs.Scanning.{nothing, alone, onto, shut, onto-none, none-onto, scan-end, scan-on, scan-anew, scan-alone}
@@ -98,15 +98,6 @@ none-clear l i {b} {table} h w = by (getD table w 0) refl
     by : (v : ℕ) → getD table w 0 ≡ v → getD table w 0 ≡ 0
     by zero e = e
     by (suc k) e = absurd (omega (arith, h .rows-are .joins .back w k e .0, none))
-
--- a Boolean as a number
-pub byte-cond : (b : Bool) → boolByte b ≡ cond b 1 0
-byte-cond true = refl
-byte-cond false = refl
-
-pub byte-le : (b : Bool) → boolByte b ≤ 1
-byte-le true = omega arith
-byte-le false = omega arith
 
 pub low : {q t w : ℕ} {l out : List ℤ} {s : Tally} → Sound l w → Stands q t l s out → Low s
 low o st = record {

@@ -47,10 +47,10 @@ fn fold_run(
     let mut i = start;
     while i < n {
         let g = gate::read(list, i);
-        if !block::takes(b, g, &*table, &*rows, &*room, qcap, tcap) {
+        if !taking::takes(b, g, &*table, &*rows, &*room, qcap, tcap) {
             return Run { block: b, end: i };
         }
-        b = block::absorb(b, g, &mut *table, &mut *names, &mut *rows, &mut *room);
+        b = absorb::absorb(b, g, &mut *table, &mut *names, &mut *rows, &mut *room);
         i += 1;
     }
     Run { block: b, end: i }

@@ -4,7 +4,7 @@ use native.Mathlib.Omega.{arith}
 use borrow.Author.Needs.{needs}
 use lib.ListN.{length}
 use lib.Seq.{length-take-le}
-use Rattle.batch_main.specs.Flowing.{Sound}
+use Rattle.flow.specs.Flowing.{Sound}
 use Rattle.batch_main.proofs.main.Statement.{statement}
 use Rattle.batch_main.proofs.main.Tie as tie
 

@@ -2,7 +2,7 @@
 use mathlib.Core.Path.{refl}
 use native.Mathlib.Omega.{arith}
 use borrow.Author.Needs.{needs}
-use Rattle.scan.proofs.Pieces.{byte-le, byte-cond}
+use Rattle.rules.proofs.Flags.{byte-cond, byte-le}
 use Rattle.scan.proofs.closed.Statement.{statement}
 use Rattle.scan.proofs.closed.Tie as tie
 

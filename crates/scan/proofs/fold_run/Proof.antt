@@ -9,7 +9,8 @@ use lib.ListN.{length}
 use Rattle.rules.specs.Scan.{cut}
 use Rattle.terms.proofs.Room.{room-same}
 use Rattle.block.specs.View.{Holds}
-use Rattle.block.proofs.Using.{ask-ready, absorb-ready}
+use Rattle.absorb.proofs.Absorbing.{absorb-ready}
+use Rattle.taking.proofs.Taking.{ask-ready}
 use Rattle.gate.specs.Writing.{gateOf}
 use Rattle.rules.specs.Meaning.{op}
 use Rattle.block.proofs.Codes.{op-read}

@@ -1,0 +1,20 @@
+-- What the helpers of the program keep: a case within the program's arrays, and its list within the flow.
+use Prim.Native.Nat.{ℕ, _+_, _*_, _≤_, _<_}
+use Rattle.flow.specs.Flowing.{Sound}
+use Rattle.flow.specs.declared.Flow.{Flow}
+use Rattle.batch_main.specs.declared.Case.{Case}
+use Rattle.batch_main.specs.declared.Ready.{Ready}
+
+-- the list and the rooms of a case are no longer than the program's own
+pub record Small (c : Case) : Type 0 where
+  pub list-fits : c .list ≤ 41000
+  pub out-fits : c .out ≤ 41000
+  pub terms-fits : c .terms ≤ 74000
+  pub steps-fits : c .steps ≤ 17000
+
+-- what is taken from a flow: where cases are left, one that fits, with its head and its list among the bytes that wait
+pub record Taken (r : Ready) (f : Flow) (i o : ℕ) : Type 0 where
+  pub sound : Sound (r .flow) i o
+  pub counted : r .flow .left ≤ f .left
+  pub small : 0 < r .flow .left → Small (r .case)
+  pub there : 0 < r .flow .left → r .flow .at + (64 + 4 * r .case .list) ≤ r .flow .end
