@@ -1,4 +1,25 @@
-/* Dilkovan: circuits shortened, proved to be the same operator. Link with libdilkovan.a, which `rt staticlib dilkovan` builds. */
+/* Dilkovan: circuits shortened, proved to be the same operator. Link with target/staticlib/libdilkovan.a, which
+ * `rt staticlib dilkovan` proves and builds for x86-64. examples/c and examples/rust call both functions.
+ *
+ * Neither function allocates, fails or keeps anything between calls; any numbers and any bytes may be given, and what can't be taken is
+ * refused. What is said below of answers and rooms is proved for every input (docs/PROMISES.md). The caller sees to what no
+ * proof of the library can: each pointer is aligned, not null (not even for 0 numbers) and leads to as many numbers as stand beside it, and no
+ * two of the rooms, and no room and the list or text, overlap.
+ *
+ * Refusals, by number (README.md has the codes of the gates and the grammar of a text):
+ *
+ *   dilkovan_cnot_min                                        dilkovan_list
+ *   1  the list's length is no multiple of 5                  3, 6 to 9  as on the left
+ *   2  more than 8,192 gates                                  10  a text above 16,384 bytes
+ *   3  more than 1,024 wires or classical bits                11  a malformed, missing or surplus line
+ *   4  `out` is shorter than the list                         12  more than 512 gates
+ *   5  `terms` or `steps` is too short
+ *   6  a code outside 1 to 27
+ *   7  an unused field isn't 0
+ *   8  a wire or bit out of range
+ *   9  the same wire twice in one gate
+ *
+ * The place is the gate's index from 0 for 6 to 9, the line's number from 1 for 11 and 12, and else 0. */
 #ifndef DILKOVAN_H
 #define DILKOVAN_H
 
@@ -11,22 +32,28 @@ extern "C" {
 
 /* Shortens a list of gates, five numbers each: code, first, second, third, turn.
  *
- * For g gates, `out` needs 5g numbers, `terms` 9g and `steps` 2(g + 128). Nothing is allocated, and nothing beyond these parts
- * is ever written. Any list, any caps and any rooms may be given: what can't be taken is refused.
+ * For g gates, `out` needs 5g numbers, `terms` 9g and `steps` 2(g + 128); they may hold any numbers, and may be longer. Nothing beyond
+ * these parts is ever written, and the list never. The qubit cap is clamped to 1..128, the term cap raised to at least 1.
  *
  * Answers 0 when it is done. Then `out` begins with the new gates, counts[1] of them, and is 0 from there to 5g; the needed parts of
  * `terms` and `steps` are 0; and `counts` has gates in, gates out, CNOT and CZ in, the same out, t and tdg in, the same out, blocks
  * closed, blocks replaced. The gates of codes 10 to 27 are the same, in order; between them, the new gates take every setting of
  * the wires to the same setting, with phases that differ by one number common to all settings, and are never dearer.
  *
- * Else it answers the refusal's number * 2^32 + its place, and writes nothing: 1, the length is no multiple of 5; 2, more than 8,192
- * gates; 3, more than 1,024 wires or bits; 4, `out` is too short; 5, `terms` or `steps` is too short; and at the place of a gate: 6, no such code;
- * 7, an unused field isn't 0; 8, a wire or bit out of range; 9, the same wire twice.
- *
- * The qubit cap is clamped to 1..128, the term cap raised to at least 1. The rooms may not overlap each other or the list. */
+ * Else it answers the refusal's number * 2^32 + its place, and writes nothing, `counts` neither. */
 uint64_t dilkovan_cnot_min(const int32_t *list, size_t list_length, size_t wires, size_t bits, size_t qubit_cap, size_t term_cap,
                            int32_t *out, size_t out_length, uint64_t *terms, size_t terms_length, uint32_t *steps,
                            size_t steps_length, uint64_t counts[8]);
+
+/* The bytes that `out` of dilkovan_list must have: the longest answer fits. */
+#define DILKOVAN_LIST_BYTES 32768
+
+/* Shortens the circuit of a list's text, as `./dilkovan list` does.
+ *
+ * Answers 0 when the list was taken, and 1 when it was refused. In either case `out` begins with what is printed, *length bytes of it with
+ * no 0 behind them: the head, the new gates and the counts; or one line, "refused NUMBER PLACE". The rest of `out` is not written, nor is
+ * the text. Its own tables are on the stack: 79,127 bytes was the deepest measured. */
+uint64_t dilkovan_list(const uint8_t *text, size_t text_length, uint8_t out[DILKOVAN_LIST_BYTES], size_t *length);
 
 #ifdef __cplusplus
 }

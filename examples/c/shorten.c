@@ -1,21 +1,43 @@
-/* Shortens a small circuit by the library: x, t, x on wire 0 is one tdg, since an x in front of a t turns the phase around. */
+/* Both doors of the library: lists of numbers, then texts. */
 #include "dilkovan.h"
+#include <inttypes.h>
 #include <stdio.h>
+#include <string.h>
 
 #define GATES 3
 
-int main(void) {
-    const int32_t list[5 * GATES] = {1, 0, 0, 0, 0, /* x */ 2, 0, 0, 0, 0, /* t */ 1, 0, 0, 0, 0 /* x */};
-    int32_t out[5 * GATES];
-    uint64_t terms[9 * GATES], counts[8];
-    uint32_t steps[2 * (GATES + 128)];
+/* Prints the new gates of a list on one wire, or its refusal. */
+static void shorten(const int32_t list[5 * GATES]) {
+    int32_t out[5 * GATES] = {0};
+    uint64_t terms[9 * GATES] = {0}, counts[8] = {0};
+    uint32_t steps[2 * (GATES + 128)] = {0};
     uint64_t refused = dilkovan_cnot_min(list, 5 * GATES, 1, 0, 128, 512, out, 5 * GATES, terms, 9 * GATES, steps, 2 * (GATES + 128), counts);
     if (refused) {
-        printf("refused %llu %llu\n", (unsigned long long)(refused >> 32), (unsigned long long)(refused & 0xffffffff));
-        return 1;
+        printf("refused %" PRIu64 " %" PRIu64 "\n", refused >> 32, refused & 0xffffffff);
+        return;
     }
-    printf("%llu gates in, %llu out:\n", (unsigned long long)counts[0], (unsigned long long)counts[1]);
-    for (uint64_t i = 0; i < counts[1]; i++)
-        printf("%d %d %d %d %d\n", out[5 * i], out[5 * i + 1], out[5 * i + 2], out[5 * i + 3], out[5 * i + 4]);
+    printf("%" PRIu64 " gates in, %" PRIu64 " out:\n", counts[0], counts[1]);
+    for (const int32_t *gate = out; gate < out + 5 * counts[1]; gate += 5)
+        printf("%" PRId32 " %" PRId32 " %" PRId32 " %" PRId32 " %" PRId32 "\n", gate[0], gate[1], gate[2], gate[3], gate[4]);
+}
+
+/* Prints the answer to a text, and whether it is a refusal. */
+static void answer(const char *text) {
+    static uint8_t out[DILKOVAN_LIST_BYTES];
+    size_t length = 0;
+    uint64_t refused = dilkovan_list((const uint8_t *)text, strlen(text), out, &length);
+    printf("a text %s, %zu bytes:\n", refused ? "refused" : "taken", length);
+    fwrite(out, 1, length, stdout);
+}
+
+int main(void) {
+    /* x, t, x is one tdg, since an x in front of a t turns the phase around */
+    shorten((const int32_t[]){1, 0, 0, 0, 0, 2, 0, 0, 0, 0, 1, 0, 0, 0, 0});
+    /* the last gate is on a wire that isn't there */
+    shorten((const int32_t[]){1, 0, 0, 0, 0, 2, 0, 0, 0, 0, 1, 1, 0, 0, 0});
+    /* two t are one s */
+    answer("head 4\n1\n0\n128\n512\ngates 2\n2 0 0 0 0\n2 0 0 0 0\n");
+    /* the second gate is missing */
+    answer("head 4\n1\n0\n128\n512\ngates 2\n2 0 0 0 0\n");
     return 0;
 }

@@ -1,17 +1,21 @@
-//! Shortens a small circuit by the library: x, t, x on wire 0 is one tdg, since an x in front of a t turns the phase around.
+//! Both doors of the library: lists of numbers, then texts.
 
-unsafe extern "C" {
+use std::io::Write;
+
+extern "C" {
     fn dilkovan_cnot_min(
         list: *const i32, list_length: usize, wires: usize, bits: usize, qubit_cap: usize, term_cap: usize,
         out: *mut i32, out_length: usize, terms: *mut u64, terms_length: usize, steps: *mut u32, steps_length: usize,
         counts: *mut [u64; 8],
     ) -> u64;
+    fn dilkovan_list(text: *const u8, text_length: usize, out: *mut [u8; 32768], length: *mut usize) -> u64;
 }
 
 /// The new gates, or the refusal's number and place.
 fn shorten(list: &[i32], wires: usize, bits: usize, qubit_cap: usize, term_cap: usize) -> Result<Vec<i32>, (u32, u32)> {
     let g = list.len() / 5;
     let (mut out, mut terms, mut steps, mut counts) = (vec![0; list.len()], vec![0; 9 * g], vec![0; 2 * (g + 128)], [0; 8]);
+    // Each slice goes as its pointer and its length, and the rooms are apart since each is borrowed as &mut.
     let answer = unsafe {
         dilkovan_cnot_min(
             list.as_ptr(), list.len(), wires, bits, qubit_cap, term_cap, out.as_mut_ptr(), out.len(),
@@ -25,13 +29,43 @@ fn shorten(list: &[i32], wires: usize, bits: usize, qubit_cap: usize, term_cap: 
     Ok(out)
 }
 
-fn main() {
-    let list = [1, 0, 0, 0, 0, /* x */ 2, 0, 0, 0, 0, /* t */ 1, 0, 0, 0, 0 /* x */];
-    match shorten(&list, 1, 0, 128, 512) {
-        Ok(gates) => {
-            println!("{} gates in, {} out:", list.len() / 5, gates.len() / 5);
-            gates.chunks(5).for_each(|g| println!("{} {} {} {} {}", g[0], g[1], g[2], g[3], g[4]));
+/// The printed bytes: an answer, or a refusal's line.
+fn answer(text: &[u8]) -> Result<Vec<u8>, Vec<u8>> {
+    let (mut out, mut length) = ([0; 32768], 0);
+    let refused = unsafe { dilkovan_list(text.as_ptr(), text.len(), &mut out, &mut length) };
+    let printed = out[..length].to_vec();
+    if refused == 0 { Ok(printed) } else { Err(printed) }
+}
+
+fn main() -> std::io::Result<()> {
+    let lists = [
+        // x, t, x is one tdg, since an x in front of a t turns the phase around
+        [1, 0, 0, 0, 0, 2, 0, 0, 0, 0, 1, 0, 0, 0, 0],
+        // the last gate is on a wire that isn't there
+        [1, 0, 0, 0, 0, 2, 0, 0, 0, 0, 1, 1, 0, 0, 0],
+    ];
+    for list in lists {
+        match shorten(&list, 1, 0, 128, 512) {
+            Ok(gates) => {
+                println!("{} gates in, {} out:", list.len() / 5, gates.len() / 5);
+                gates.chunks(5).for_each(|g| println!("{} {} {} {} {}", g[0], g[1], g[2], g[3], g[4]));
+            }
+            Err((number, place)) => println!("refused {number} {place}"),
         }
-        Err((number, place)) => println!("refused {number} {place}"),
     }
+    let texts = [
+        // two t are one s
+        "head 4\n1\n0\n128\n512\ngates 2\n2 0 0 0 0\n2 0 0 0 0\n",
+        // the second gate is missing
+        "head 4\n1\n0\n128\n512\ngates 2\n2 0 0 0 0\n",
+    ];
+    for text in texts {
+        let (told, printed) = match answer(text.as_bytes()) {
+            Ok(printed) => ("taken", printed),
+            Err(printed) => ("refused", printed),
+        };
+        println!("a text {told}, {} bytes:", printed.len());
+        std::io::stdout().write_all(&printed)?;
+    }
+    Ok(())
 }

@@ -1,5 +1,6 @@
--- Answers as a caller in another language gets them: one number, and the counts in a room of eight.
+-- Answers as a caller in another language gets them: one number, and the counts in a room of eight; of a text, one number and the length.
 use mathlib.Core.Path.{_≡_}
+use mathlib.Core.Bool.{cond}
 use mathlib.Core.List.{List, [], _∷_}
 use Prim.Native.Nat.{ℕ, _+_, _*_, _^_, _<_}
 use lib.IntN.{ℤ}
@@ -8,6 +9,8 @@ use Rattle.gate.specs.declared.Refusal.{Refusal}
 use Rattle.cnot_min.specs.Minimizing.{told, Minimizes}
 use Rattle.cnot_min.specs.declared.Answer.{Answer}
 use Rattle.cnot_min.specs.declared.Answer.the-variants.{Refused, Done}
+use Rattle.list.specs.Answer.{answer}
+use Rattle.list.specs.Told.{Lists}
 
 -- 0 where it is done; else the refusal's number * 2^32 + its place
 abbrev pub coded : Paper.Answer → ℕ
@@ -34,3 +37,10 @@ pub record Exports (l : List ℤ) (wires bits qcap tcap : ℕ) (out : List ℤ) 
 unfoldable pub Placed : Answer → Type 0
 Placed (Refused r) = r .place < 2 ^ 32
 Placed (Done c) = Unit {0}
+
+-- the answer to a text: 0, or 1 for a refusal; the room begins with its bytes, as many as `size` says, and the rest is untouched
+pub record ExportsText (text room : List ℕ) (r : ℕ) (room′ : List ℕ) (size : ℕ) : Type 0 where
+  -- wrong: a refusal told as an answer
+  pub number : r ≡ cond (answer text .refused) 1 0
+  -- all that `list` says. Wrong: another length; a byte written behind the answer
+  pub lists : Lists text room (record { length = size; refused = answer text .refused }) room′

@@ -1,2 +1,2 @@
--- The definitions that the crate's contracts cite, beside those of `rules` and `cnot_min`.
+-- The definitions that the crate's contracts cite, beside those of `rules`, `cnot_min` and `list`.
 pub mod Doors

@@ -1,9 +1,10 @@
 // The static library: the entry points under names that a program in another language can call. A slice is a pointer and a count.
 use cnot_min::Answer;
 use cnot_min::Counts;
+ghost use mathlib.Core.Bool.{cond};
 ghost use mathlib.Core.Path.{_≡_};
 ghost use Rattle.cnot_min.specs.Minimizing.{told, counted};
-ghost use Rattle.dilkovan.specs.Doors.{coded, listed, Exports, Placed};
+ghost use Rattle.dilkovan.specs.Doors.{coded, listed, Exports, ExportsText, Placed};
 
 // 0 where it is done; else the refusal's number * 2^32 + its place.
 fn code(a: Answer) -> u64
@@ -53,4 +54,21 @@ pub extern "C" fn dilkovan_cnot_min(
     };
     store(c, counts);
     0
+}
+
+// 1 where it is so.
+fn flag(b: bool) -> u64
+    ensures { λ r. ⌜ r ≡ cond b 1 0 ⌝ }
+{
+    if b { 1 } else { 0 }
+}
+
+// `list::list`: 0 an answer, 1 a refusal. Its bytes begin `out`, and `length` says how many they are.
+#[no_mangle]
+pub extern "C" fn dilkovan_list(text: &[u8], out: &mut [u8; 32768], length: &mut usize) -> u64
+    ensures { λ r. ⌜ ExportsText (now (text .entry)) (now (out .entry)) r (now (out .exit)) (now (length .exit)) ⌝ }
+{
+    let a = list::list(text, out);
+    *length = a.length;
+    flag(a.refused)
 }

@@ -1,5 +1,6 @@
 -- `dilkovan::code` meets its contract, case by case.
 use mathlib.Core.Path.{refl}
+use Prim.Native.Nat.{_^_, _<_}
 use native.Mathlib.Omega.{arith}
 use borrow.Author.Needs.{needs}
 use Rattle.dilkovan.specs.Doors.{Placed}
@@ -12,12 +13,16 @@ enum-known-a c = search needs
 cast-result : tie.Need-cast-result
 cast-result c = search needs
 
+-- the place fits 32 bits
+place-fits : (c : tie.After-struct-known) → (c .before .before) .a .given .0 .0 .place < 2 ^ 32
+unfolding Placed
+place-fits c = rw ((c .before .before) .a .given .1) at ((c .before .before .before .before) .pre)
+
 mul-result : tie.Need-mul-result
-mul-result c = search needs
+mul-result c = record { fits = omega (arith, place-fits c) }
 
 add-result : tie.Need-add-result
-unfolding Placed
-add-result c = let p = rw ((c .before .before) .a .given .1) at ((c .before .before .before .before) .pre) in omega (arith, p)
+add-result c = record { fits = omega (arith, place-fits c) }
 
 enum-told : tie.Need-enum-told
 enum-told c = search needs

@@ -1,7 +1,6 @@
 -- `dilkovan::dilkovan_cnot_min` meets its contract: what `cnot_min_with` says, by number and counts.
-use mathlib.Core.Path.{_≡_, refl, sym, ap, _∙_}
+use mathlib.Core.Path.{refl, _∙_}
 use borrow.Author.Needs.{needs}
-use Rattle.dilkovan.specs.Doors.{coded, stored}
 use Rattle.dilkovan.proofs.Answers.{placed}
 use Rattle.dilkovan.proofs.dilkovan_cnot_min.Statement.{statement}
 use Rattle.dilkovan.proofs.dilkovan_cnot_min.Tie as tie
@@ -16,7 +15,7 @@ enum-told : tie.Need-enum-told
 enum-told c = search needs
 
 code-requires : tie.Need-code-requires
-code-requires c κs = let a = (c .before .before .before .before .before .before .before .before .before .before .before .before .before) .args in let m = (c .before .before .before .before .before .before .before) .cnot-min-with in placed (a .list .now) (a .wires) (a .bits) (a .qubit-cap) (a .term-cap) (a .out .now) (a .terms .now) (a .steps .now) (m .result) _ _ _ (m .ensures)
+code-requires c κs = placed _ _ _ _ _ _ _ _ _ _ _ _ ((c .before .before .before .before .before .before .before) .cnot-min-with .ensures)
 
 same-length : tie.Need-same-length
 same-length c = search needs

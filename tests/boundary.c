@@ -1,0 +1,302 @@
+/* Calls both doors of the library with exact, short and longer rooms, and looks at every byte of every room afterwards.
+ *
+ * Every case is called twice: with rooms that stand between two guards, so that a byte written outside shows in what is compared; and with rooms
+ * that are blocks of their own, so that valgrind sees a byte read or written outside. */
+#include "dilkovan.h"
+#include <inttypes.h>
+#include <stdio.h>
+#include <stdlib.h>
+#include <string.h>
+
+#define GUARD 64
+#define MOST 8193 /* gates */
+#define LONGEST 16384 /* bytes of a text */
+
+static size_t guard, calls, compared;
+
+static void fail(const char *name, const char *what) {
+    printf("boundary: %s: %s%s\n", name, what, guard ? "" : " (no guards)");
+    exit(1);
+}
+
+/* ---- rooms */
+
+typedef struct {
+    unsigned char *block;
+    size_t size;
+} Room;
+
+/* What a room and its guards hold before a call: never 0, so that a cleared byte differs. */
+static unsigned char pattern(size_t i) {
+    return (unsigned char)(1 + i % 251);
+}
+
+static Room lend(size_t size) {
+    Room room = {malloc(size + 2 * guard), size};
+    if (!room.block)
+        fail("malloc", "no memory");
+    for (size_t i = 0; i < size + 2 * guard; i++)
+        room.block[i] = pattern(i);
+    return room;
+}
+
+static Room lend_filled(const void *bytes, size_t size) {
+    Room room = lend(size);
+    if (size)
+        memcpy(room.block + guard, bytes, size);
+    return room;
+}
+
+static void *inside(Room room) {
+    return room.block + guard;
+}
+
+/* The room begins with these bytes, then has so many zeros, and all of the rest, the guards too, is as it was. Ends the room. */
+static void settle(const char *name, const char *which, Room room, const void *bytes, size_t size, size_t zeros) {
+    for (size_t i = 0; i < room.size + 2 * guard; i++) {
+        unsigned char want = pattern(i);
+        if (i >= guard && i < guard + size)
+            want = ((const unsigned char *)bytes)[i - guard];
+        else if (i >= guard + size && i < guard + size + zeros)
+            want = 0;
+        if (room.block[i] != want)
+            fail(name, which);
+    }
+    compared += room.size + 2 * guard;
+    free(room.block);
+}
+
+/* ---- lists of numbers */
+
+/* One call. The rooms are so many numbers more, or fewer, than the list needs. */
+typedef struct {
+    const char *name;
+    const int32_t *list;
+    size_t length, wires, bits, qubit_cap, term_cap;
+    long out, terms, steps;
+} Call;
+
+#define REFUSED(number, place) ((uint64_t)(number) << 32 | (uint64_t)(place))
+
+static const uint64_t none[8];
+
+/* The answer is this one. Where it is 0, the counts are these and `out` begins with this result; a result that isn't given is only counted. */
+static void numbers(Call c, uint64_t answer, const int32_t *result, const uint64_t counts[8]) {
+    size_t g = c.length / 5, terms = 9 * g, steps = 2 * (g + 128);
+    Room list = lend_filled(c.list, c.length * sizeof(int32_t));
+    Room out = lend((size_t)((long)c.length + c.out) * sizeof(int32_t));
+    Room term = lend((size_t)((long)terms + c.terms) * sizeof(uint64_t));
+    Room step = lend((size_t)((long)steps + c.steps) * sizeof(uint32_t));
+    Room count = lend(8 * sizeof(uint64_t));
+    uint64_t told = dilkovan_cnot_min(inside(list), c.length, c.wires, c.bits, c.qubit_cap, c.term_cap, inside(out), out.size / sizeof(int32_t),
+                                      inside(term), term.size / sizeof(uint64_t), inside(step), step.size / sizeof(uint32_t), inside(count));
+    calls++;
+    if (told != answer) {
+        printf("boundary: %s: answered %" PRIu64 " %" PRIu64 "\n", c.name, told >> 32, told & 0xffffffff);
+        exit(1);
+    }
+    settle(c.name, "the list", list, c.list, c.length * sizeof(int32_t), 0);
+    if (answer) {
+        settle(c.name, "out, of a refusal", out, NULL, 0, 0);
+        settle(c.name, "terms, of a refusal", term, NULL, 0, 0);
+        settle(c.name, "steps, of a refusal", step, NULL, 0, 0);
+        settle(c.name, "counts, of a refusal", count, NULL, 0, 0);
+        return;
+    }
+    uint64_t found[8];
+    memcpy(found, inside(count), sizeof found);
+    if (found[0] != g || found[1] > g)
+        fail(c.name, "gates in or out");
+    size_t made = 5 * (size_t)found[1] * sizeof(int32_t);
+    settle(c.name, "out", out, result ? (const void *)result : inside(out), made, 5 * g * sizeof(int32_t) - made);
+    settle(c.name, "terms", term, NULL, 0, terms * sizeof(uint64_t));
+    settle(c.name, "steps", step, NULL, 0, steps * sizeof(uint32_t));
+    settle(c.name, "counts", count, result ? counts : found, sizeof found, 0);
+}
+
+static const int32_t three[] = {1, 0, 0, 0, 0, 2, 0, 0, 0, 0, 1, 0, 0, 0, 0}; /* x0 t0 x0 */
+static const int32_t one[] = {3, 0, 0, 0, 0};                                 /* tdg0 */
+static const uint64_t three_counts[8] = {3, 1, 0, 0, 1, 1, 1, 1};
+
+static void rooms(void) {
+    Call c = {"exact rooms", three, 15, 1, 0, 128, 512, 0, 0, 0};
+    numbers(c, 0, one, three_counts);
+    c = (Call){"longer rooms", three, 15, 1, 0, 128, 512, 9, 8, 7};
+    numbers(c, 0, one, three_counts);
+    c = (Call){"the largest head", three, 15, 1024, 1024, SIZE_MAX, SIZE_MAX, 1, 1, 1};
+    numbers(c, 0, one, three_counts);
+    c = (Call){"caps of 0", three, 15, 1, 0, 0, 0, 0, 0, 0};
+    numbers(c, 0, one, three_counts);
+    c = (Call){"out one short", three, 15, 1, 0, 128, 512, -1, 0, 0};
+    numbers(c, REFUSED(4, 0), NULL, none);
+    c = (Call){"terms one short", three, 15, 1, 0, 128, 512, 0, -1, 0};
+    numbers(c, REFUSED(5, 0), NULL, none);
+    c = (Call){"steps one short", three, 15, 1, 0, 128, 512, 0, 0, -1};
+    numbers(c, REFUSED(5, 0), NULL, none);
+    c = (Call){"every room one short", three, 15, 1, 0, 128, 512, -1, -1, -1};
+    numbers(c, REFUSED(4, 0), NULL, none);
+    c = (Call){"no room at all", three, 15, 1, 0, 128, 512, -15, -27, -262};
+    numbers(c, REFUSED(4, 0), NULL, none);
+    c = (Call){"3 before 4 and 5", three, 15, 1025, 0, 128, 512, -1, -1, -1};
+    numbers(c, REFUSED(3, 0), NULL, none);
+    c = (Call){"no gates", three, 0, 0, 0, 128, 512, 0, 0, 0};
+    numbers(c, 0, one, none);
+    c = (Call){"no gates, longer rooms", three, 0, 0, 0, 128, 512, 5, 9, 2};
+    numbers(c, 0, one, none);
+    c = (Call){"no gates, steps one short", three, 0, 0, 0, 128, 512, 0, 0, -1};
+    numbers(c, REFUSED(5, 0), NULL, none);
+}
+
+/* Two gates on three wires and two bits, of which the second is refused, in exact rooms and in longer ones. */
+static void gate(const char *name, int number, int32_t code, int32_t first, int32_t second, int32_t third, int32_t turn) {
+    int32_t list[10] = {2, 0, 0, 0, 0, code, first, second, third, turn};
+    for (long more = 0; more < 4; more += 3) {
+        Call c = {name, list, 10, 3, 2, 128, 512, more, more, more};
+        numbers(c, REFUSED(number, 1), NULL, none);
+    }
+}
+
+static void refusals(int32_t *list) {
+    for (size_t length = 14; length > 10; length--) {
+        Call c = {"1: no multiple of 5", three, length, 1, 0, 128, 512, 0, 0, 0};
+        numbers(c, REFUSED(1, 0), NULL, none);
+    }
+    for (size_t i = 0; i < 5 * MOST; i++)
+        list[i] = i % 5 == 0 ? 2 : 0;
+    Call c = {"2: 8,193 gates", list, 5 * MOST, 1, 0, 128, 512, 0, 0, 0};
+    numbers(c, REFUSED(2, 0), NULL, none);
+    c = (Call){"3: wires", three, 15, 1025, 0, 128, 512, 0, 0, 0};
+    numbers(c, REFUSED(3, 0), NULL, none);
+    c = (Call){"3: bits", three, 15, 1, 1025, 128, 512, 0, 0, 0};
+    numbers(c, REFUSED(3, 0), NULL, none);
+    gate("6: code 0", 6, 0, 0, 0, 0, 0);
+    gate("6: code 28", 6, 28, 0, 0, 0, 0);
+    gate("6: code below 0", 6, INT32_MIN, 0, 0, 0, 0);
+    gate("7: second", 7, 2, 0, 1, 0, 0);
+    gate("7: third", 7, 8, 0, 1, 2, 0);
+    gate("7: turn", 7, 6, 0, 0, 0, -1);
+    gate("8: first", 8, 7, 3, 0, 0, 1);
+    gate("8: first below 0", 8, 10, -1, 0, 0, 0);
+    gate("8: second", 8, 9, 0, INT32_MAX, 0, 0);
+    gate("8: third", 8, 24, 0, 1, 3, 0);
+    gate("8: a measure's bit", 8, 27, 0, 2, 0, 0);
+    gate("9: control and target", 9, 8, 1, 1, 0, 0);
+    gate("9: second and third", 9, 26, 0, 2, 2, 0);
+    list[5 * (MOST - 2)] = 28;
+    c = (Call){"6: the last of 8,192 gates", list, 5 * (MOST - 1), 1, 0, 128, 512, 0, 0, 0};
+    numbers(c, REFUSED(6, MOST - 2), NULL, none);
+}
+
+/* Lists of 8,192 gates. */
+static void large(int32_t *list) {
+    size_t g = MOST - 1;
+    memset(list, 0, 5 * g * sizeof *list);
+    for (size_t i = 0; i < g; i++)
+        list[5 * i] = 2;
+    Call c = {"8,192 times t", list, 5 * g, 1, 0, 128, 512, 0, 0, 0};
+    numbers(c, 0, list, (uint64_t[]){g, 0, 0, 0, g, 0, 1, 1});
+    for (size_t i = 0; i < g; i++)
+        list[5 * i] = 10;
+    c = (Call){"8,192 times h", list, 5 * g, 1, 0, 128, 512, 3, 3, 3};
+    numbers(c, 0, list, (uint64_t[]){g, g, 0, 0, 0, 0, 0, 0});
+    /* a cz on every pair of 128 wires, and some t: one block of 8,256 terms. Its result isn't given here, only its rooms are looked at */
+    size_t i = 0;
+    for (int32_t a = 0; a < 128; a++)
+        for (int32_t b = 0; b < a; b++, i++)
+            list[5 * i] = 9, list[5 * i + 1] = a, list[5 * i + 2] = b;
+    for (; i < g; i++)
+        list[5 * i] = 2, list[5 * i + 1] = (int32_t)(i % 128);
+    c = (Call){"8,192 gates, cz on every pair", list, 5 * g, 128, 0, 128, SIZE_MAX, 0, 0, 0};
+    numbers(c, 0, NULL, none);
+    /* x, t, tdg, rz, cnot and cz as a simple generator has them, on more wires than a block takes; the result isn't given either */
+    uint32_t state = 1;
+    for (i = 0; i < g; i++) {
+        static const int32_t codes[] = {1, 2, 7, 8, 8, 8, 9, 3};
+        int32_t draw[3], *at = list + 5 * i;
+        for (int k = 0; k < 3; k++)
+            state = state * 1664525 + 1013904223, draw[k] = (int32_t)(state >> 20);
+        memset(at, 0, 5 * sizeof *at);
+        at[0] = codes[draw[0] % 8];
+        at[1] = draw[1] % 256;
+        if (at[0] == 7)
+            at[4] = draw[2] - 2048;
+        else if (at[0] > 7)
+            at[2] = (at[1] + 1 + draw[2] % 255) % 256;
+    }
+    c = (Call){"8,192 mixed gates", list, 5 * g, 256, 0, 128, 512, 0, 0, 0};
+    numbers(c, 0, NULL, none);
+    c = (Call){"8,192 mixed gates, longer rooms", list, 5 * g, 256, 0, 128, 512, 11, 11, 11};
+    numbers(c, 0, NULL, none);
+}
+
+/* ---- texts */
+
+static void text(const char *name, const char *bytes, size_t size, uint64_t refused, const char *printed) {
+    Room in = lend_filled(bytes, size);
+    Room out = lend(DILKOVAN_LIST_BYTES);
+    Room length = lend(sizeof(size_t));
+    uint64_t told = dilkovan_list(inside(in), size, inside(out), inside(length));
+    size_t want = strlen(printed);
+    calls++;
+    if (told != refused)
+        fail(name, "the answer");
+    settle(name, "the length", length, &want, sizeof want, 0);
+    settle(name, "the printed bytes, or the room behind them", out, printed, want, 0);
+    settle(name, "the text", in, bytes, size, 0);
+}
+
+#define HEAD "head 4\n1024\n0\n128\n512\n"
+
+/* `gates` of so many times this line */
+static size_t repeated(char *to, const char *line, int gates) {
+    size_t n = (size_t)sprintf(to, HEAD "gates %d\n", gates);
+    for (int i = 0; i < gates; i++)
+        n += (size_t)sprintf(to + n, "%s\n", line);
+    return n;
+}
+
+static void texts(void) {
+    static char bytes[2 * DILKOVAN_LIST_BYTES], printed[2 * DILKOVAN_LIST_BYTES];
+    static const char example[] = "head 4\n1\n0\n128\n512\ngates 2\n2 0 0 0 0\n2 0 0 0 0\n";
+    text("document 01's example", example, sizeof example - 1, 0, "head 4\n1\n0\n128\n512\ngates 1\n4 0 0 0 0\ncounts 8\n2\n1\n0\n0\n2\n0\n1\n1\n");
+    text("without its last byte", example, sizeof example - 2, 1, "refused 11 8\n");
+    text("no bytes", example, 0, 1, "refused 11 1\n");
+    text("3", "head 4\n1025\n0\n1\n1\ngates 0\n", 26, 1, "refused 3 0\n");
+    text("no gates", "head 4\n0\n0\n0\n0\ngates 0\n", 23, 0, "head 4\n0\n0\n0\n0\ngates 0\ncounts 8\n0\n0\n0\n0\n0\n0\n0\n0\n");
+    /* 512 gates that are copied, in the longest lines that are taken */
+    size_t n = repeated(bytes, "23 1023 1022 0 -2147483648", 512);
+    sprintf(printed, "%.*scounts 8\n512\n512\n0\n0\n0\n0\n0\n0\n", (int)n, bytes);
+    text("512 long lines", bytes, n, 0, printed);
+    n = repeated(bytes, "2 0 0 0 0", 513);
+    text("12: 513 gates", bytes, n, 1, "refused 12 6\n");
+    /* lines that make 16,384 bytes in all; the gates are looked at when every line was read */
+    n = (size_t)sprintf(bytes, HEAD "gates 512\n");
+    for (int i = 0; i < 512; i++)
+        n += (size_t)sprintf(bytes + n, "8 1000000000 1000000000 0 %d\n", i < 480 ? 12345 : 1234);
+    if (n != LONGEST)
+        fail("16,384 bytes", "the test's own text");
+    text("16,384 bytes", bytes, n, 1, "refused 7 0\n");
+    bytes[n] = '\n';
+    text("10: 16,385 bytes", bytes, n + 1, 1, "refused 10 0\n");
+    bytes[n - 1] = '0';
+    text("16,384 bytes without the last LF", bytes, n, 1, "refused 11 518\n");
+    memset(bytes, 0, sizeof bytes);
+    text("16,384 zeros", bytes, LONGEST, 1, "refused 11 1\n");
+    text("10: 16,385 zeros", bytes, LONGEST + 1, 1, "refused 10 0\n");
+}
+
+int main(void) {
+    int32_t *list = malloc(5 * MOST * sizeof *list);
+    if (!list)
+        fail("malloc", "no memory");
+    for (int turn = 0; turn < 2; turn++) {
+        guard = turn ? 0 : GUARD;
+        rooms();
+        refusals(list);
+        large(list);
+        texts();
+    }
+    free(list);
+    printf("boundary: %zu calls, %zu bytes compared, ok\n", calls, compared);
+    return 0;
+}
