@@ -42,21 +42,6 @@ module _ (l : List ℤ) (i : ℕ) (g : Gate) (h : width * i + width ≤ length l
   unfolding placed
   length-placed = simp (length-append, length-drop) (omega (arith, before))
 
-  -- what stands before the place stays
-  pub take-placed : take (width * i) (placed l i g) ≡ take (width * i) l
-  unfolding placed
-  take-placed =
-      rw (append-assoc (take (width * i) l) (numbers g) (drop (width * i + width) l))
-      (take-at (take (width * i) l) (numbers g ++ drop (width * i + width) l) (width * i) before)
-
-  -- what stands behind it stays
-  pub drop-placed : drop (width * (i + 1)) (placed l i g) ≡ drop (width * (i + 1)) l
-  unfolding placed
-  drop-placed =
-      let e : width * (i + 1) ≡ width * i + width = omega arith in
-      rw e
-      (drop-at (take (width * i) l ++ numbers g) (drop (width * i + width) l) (width * i + width) head)
-
   -- a list that begins with the numbers of i gates begins with those of one more
   pub next-placed : (gs : List Gate) → take (width * i) l ≡ numbersOf gs → take (width * (i + 1)) (placed l i g) ≡ numbersOf (gs ++ (g ∷ []))
   unfolding placed
@@ -65,7 +50,3 @@ module _ (l : List ℤ) (i : ℕ) (g : Gate) (h : width * i + width ≤ length l
       rw k
       (take-at (take (width * i) l ++ numbers g) (drop (width * i + width) l) (width * i + width) head
       ∙ ap (λ (x : List ℤ). x ++ numbers g) e ∙ numbersOf-snoc gs g)
-
--- a gate that was read can be written
-pub read-small : (g : Gate) (r : Held) → Reads g r → Small r
-read-small g r h = record { code = h .code-lt; first = h .first-lt; second = h .second-lt; third = h .third-lt }

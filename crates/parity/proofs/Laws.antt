@@ -28,11 +28,6 @@ pub bit-high : (n k i : ℕ) → n < 2 ^ k → k ≤ i → bit n i ≡ false
 unfolding bit
 bit-high n k i h l = ap (λ (x : ℕ). isSet (x % 2)) (div-eq-of-lt (lt-of-lt-of-le h (pow-mono l)))
 
--- the columns below n
-pub bit-all : (n i : ℕ) → bit (2 ^ n - 1) i ≡ ltb i n
-bit-all n i =
-    split (ltb i n) (λ t. bit-ones n i (ltb-true i n t) ∙ sym t) (λ t. bit-high (2 ^ n - 1) n i (ones-lt n) (ltb-false i n t) ∙ sym t)
-
 pub half-lt : {n : ℕ} (k : ℕ) → n < 2 ^ suc k → n / 2 < 2 ^ k
 half-lt {n} k h = let e = pow-suc 2 k in omega arith
 
@@ -125,14 +120,6 @@ lowest (suc k) n p h = go (n % 2) refl (λ q. lowest k (n / 2) q (half-lt k h))
         (omega (arith, r .0), record { set = bit-suc n _ ∙ r .1 .set; below = low (trailingZeros k (n / 2)) e (r .1) })
     go (suc d) e ih = (zero-lt-suc k, record { set = bit-low n ∙ ap isSet e; below = λ j l. absurd (omega arith) })
 
-not-lt : {a b : ℕ} → (b < a → ⊥) → a ≤ b
-not-lt f = le-of-suc-le-suc (lt-of-not-le (λ (g : suc _ ≤ _). f g))
-
--- a number has one lowest column
-pub lowest-one : (n s t : ℕ) → Lowest n s → Lowest n t → s ≡ t
-lowest-one n s t p q =
-    le-antisymm (not-lt (λ (l : t < s). true≢false (sym (q .set) ∙ p .below t l))) (not-lt (λ (l : s < t). true≢false (sym (p .set) ∙ q .below s l)))
-
 clear-even : (n : ℕ) → n % 2 ≡ 0 → clearLowest n ≡ clearLowest (n / 2) * 2
 unfolding clearLowest
 clear-even n e =
@@ -200,16 +187,6 @@ highest k n p h =
     let e : s .0 ≡ k - 1 - leadingZeros k n = omega (arith, s .1) in
     subst (Highest n) e (highest-at n (s .0) (s .2) (s .3))
 
--- a number has one highest column
-pub highest-one : (n s t : ℕ) → Highest n s → Highest n t → s ≡ t
-highest-one n s t p q =
-    le-antisymm (not-lt (λ (l : t < s). true≢false (sym (p .set) ∙ q .above s l))) (not-lt (λ (l : s < t). true≢false (sym (q .set) ∙ p .above t l)))
-
--- a number with a column is not 0
-pub some-bit : (n i : ℕ) → bit n i ≡ true → 0 < n
-some-bit zero i e = absurd (true≢false (sym e ∙ bit-zero i))
-some-bit (suc n) i e = zero-lt-suc n
-
 -- ---- a parity's two words, over any width k of the low one and j of the high one
 
 -- they make a number of j + k digits
@@ -223,8 +200,3 @@ words-eq k a b c d hb hd e =
 
 pub val-lt : (p : Parity) → p .hi < 2 ^ 64 → p .lo < 2 ^ 64 → val p < 2 ^ 128
 val-lt p h l = words-lt 64 64 (p .hi) (p .lo) h l
-
-pub val-inj : (p q : Parity) → p .lo < 2 ^ 64 → q .lo < 2 ^ 64 → val p ≡ val q → p ≡ q
-val-inj p q h l e =
-    let w = words-eq 64 (p .hi) (p .lo) (q .hi) (q .lo) h l e in
-    ap₂ (λ (lo hi : ℕ). record { lo = lo; hi = hi }) (w .1) (w .0)

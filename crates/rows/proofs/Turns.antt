@@ -130,16 +130,6 @@ invert-start a b e =
     let s : length a - 0 ≡ length a = omega arith in
     rw (s, e)
 
--- the answer, taken apart
-module _ (b : Bool) (rows : List ℕ) (o : Option (List ℕ)) (e : given b rows ≡ o) where
-  pub given-some : b ≡ true → o ≡ some rows
-  unfolding given
-  given-some t = sym e ∙ rw t
-
-  pub given-none : b ≡ false → o ≡ none
-  unfolding given
-  given-none t = sym e ∙ rw t
-
 -- ---- rows compared from the front
 
 module _ (r : ℕ) (a b : List ℕ) where

@@ -250,9 +250,6 @@ unfoldable pub SoundAll : ℕ → ℕ → List Gate → Type 0
 SoundAll w b [] = Unit {0}
 SoundAll w b (g ∷ gs) = Sound w b g × SoundAll w b gs
 
-pub sound-fit : (w b : ℕ) (g : Gate) → Sound w b g → Fit w b (g .code) (g .first) (g .second) (g .third) (g .turn)
-sound-fit w b g = fit w b (pos (g .code)) (pos (g .first)) (pos (g .second)) (pos (g .third)) (g .turn)
-
 pub sound-append : (w b : ℕ) (us vs : List Gate) → SoundAll w b us → SoundAll w b vs → SoundAll w b (us ++ vs)
 unfolding SoundAll
 sound-append w b [] vs h k = k

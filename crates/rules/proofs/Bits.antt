@@ -23,12 +23,6 @@ pub ⊕-self : (a : Bool) → (a ⊕ a) ≡ false
 ⊕-self true = refl
 ⊕-self false = refl
 
-pub ⊕-comm : (a b : Bool) → (a ⊕ b) ≡ (b ⊕ a)
-⊕-comm true true = refl
-⊕-comm true false = refl
-⊕-comm false true = refl
-⊕-comm false false = refl
-
 pub ⊕-assoc : (a b c : Bool) → (a ⊕ b ⊕ c) ≡ (a ⊕ (b ⊕ c))
 ⊕-assoc true true true = refl
 ⊕-assoc true true false = refl

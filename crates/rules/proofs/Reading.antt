@@ -78,10 +78,6 @@ from-at l zero i j d h = absurd (not-suc-le-zero h)
 from-at l (suc n) i zero d h = let e : i + zero ≡ i = omega arith in rw e
 from-at l (suc n) i (suc j) d h = let e : i + suc j ≡ suc i + j = omega arith in rw e (from-at l n (suc i) j d (le-of-suc-le-suc h))
 
-pub gates-at : (l : List ℤ) (i : ℕ) (d : Gate) → i < length l / width → getD (gatesOf l) i d ≡ gateAt l i
-unfolding gatesOf
-gates-at l i d h = let e : zero + i ≡ i = omega arith in from-at l (length l / width) zero i d h ∙ ap (gateAt l) e
-
 -- a run of places is cut at any of them
 pub from-append : (l : List ℤ) (m n i : ℕ) → gatesFrom l (m + n) i ≡ gatesFrom l m i ++ gatesFrom l n (i + m)
 unfolding gatesFrom
@@ -90,13 +86,6 @@ from-append l (suc m) n i =
     let e : suc m + n ≡ suc (m + n) = omega arith in
     let f : i + suc m ≡ suc i + m = omega arith in
     rw (e, f) (ap (λ (gs : List Gate). gateAt l i ∷ gs) (from-append l m n (suc i)))
-
--- what stands behind a gate's numbers does not show in it
-pub gate-before : (l r : List ℤ) (i : ℕ) → i < length l / width → gateAt (l ++ r) i ≡ gateAt l i
-unfolding gateAt
-gate-before l r i h =
-    let f : (k : ℕ) → k < width → field (l ++ r) i k ≡ field l i k = λ k hk. List·getD-append l r (pos 0) (width * i + k) (omega arith) in
-    rw (f 0 (omega arith), f 1 (omega arith), f 2 (omega arith), f 3 (omega arith), f 4 (omega arith))
 
 -- ---- read, then written
 

@@ -28,13 +28,6 @@ unfolding chosen replaces
 shut write [] = nothing
 shut write (g ∷ gs) = record { gates = chosen write (g ∷ gs); blocks = 1; replaced = cond (replaces write (g ∷ gs)) 1 0 }
 
-pub onto-assoc : (a b c : Result) → onto (onto a b) c ≡ onto a (onto b c)
-onto-assoc a b c =
-    let g = append-assoc (a .gates) (b .gates) (c .gates) in
-    let m : a .blocks + b .blocks + c .blocks ≡ a .blocks + (b .blocks + c .blocks) = omega arith in
-    let n : a .replaced + b .replaced + c .replaced ≡ a .replaced + (b .replaced + c .replaced) = omega arith in
-    rw (g, m, n)
-
 pub onto-none : (a : Result) → onto a nothing ≡ a
 onto-none a =
     let m : a .blocks + zero ≡ a .blocks = omega arith in

@@ -1,8 +1,7 @@
--- A part of a room that is lent from one term to another and comes back, and what the contracts say as one list.
+-- A part of a room that is lent from one term to another and comes back.
 --     part-terms    the terms of the part
 --     part-back     the terms of the room when it is back
 --     part-split    where it comes back split
---     begins-list, sides-list    a room that begins with new terms; a part that was split
 use mathlib.Core.Path.{_≡_, sym, ap, ap₂, _∙_}
 use mathlib.Core.Bool.{true}
 use mathlib.Core.List.{List, _++_}
@@ -42,9 +41,3 @@ module _ (from to : ℕ) (xs : List ℕ) (l : from ≤ to) (m : to ≤ length (t
       → Sides column (termsOf (take (3 * to - 3 * from) (drop (3 * from) xs))) (termsOf ys) r
       → SplitAt column from to (termsOf xs) (termsOf (putMid (3 * from) (3 * to - 3 * from) xs ys)) r
   part-split column r ys e s = record { part = termsOf ys; list = part-back ys e; sides = rw part-terms at s }
-
-pub begins-list : {new before after : List Term} {r : ℕ} → Begins new r r before after → after ≡ new ++ drop r before
-begins-list {after = after} {r = r} b = sym (take-append-drop r after) ∙ ap₂ (λ (a d : List Term). a ++ d) (b .front) (b .rest)
-
-pub sides-list : {column r : ℕ} {before after : List Term} → Sides column before after r → after ≡ side true column before ++ drop r after
-sides-list {r = r} {after = after} s = sym (take-append-drop r after) ∙ ap (λ (a : List Term). a ++ drop r after) (s .ones)

@@ -18,12 +18,6 @@ use Rattle.text.proofs.Grammar.{read-decimal, decimal-read, read-printe
 
 -- ---- how long
 
--- a sign and ten digits
-pub printed-long : (v : ℤ) → mag v ≤ largest → length (printed v) ≤ 11
-unfolding printed
-printed-long (pos n) h = omega (arith, decimal-long 9 n (omega arith))
-printed-long (negsuc n) h = omega (arith, decimal-long 9 (suc n) (omega arith))
-
 -- ---- words
 
 pub read-word : (w rest : List ℕ) → word w (w ++ rest) ≡ found tt rest

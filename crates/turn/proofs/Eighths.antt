@@ -41,10 +41,6 @@ pub turn8-lt : (z : ℤ) → turn8 z < 8
 turn8-lt (pos n) = omega arith
 turn8-lt (negsuc n) = omega arith
 
-pub signed-lt : (flips : Bool) (k : ℕ) → signed flips k < 8
-signed-lt true k = omega arith
-signed-lt false k = omega arith
-
 -- the correction of a remainder below 0
 pub corrected : (z : ℤ) → ltZ (remZ z (pos 8)) (pos 0) ≡ true → remZ z (pos 8) +ℤ pos 8 ≡ pos (turn8 z)
 corrected z h =

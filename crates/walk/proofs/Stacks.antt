@@ -72,10 +72,6 @@ sound-top n ss (suc d) end s h e k =
     one : (d : ℕ) → suc d - 1 ≡ d
     one d = omega arith
 
-pub sound-more : (n : ℕ) (ss : List Slot) (d end : ℕ) (s : Slot) → s ≡ getD ss d noSlot → s .start ≤ end → Aimed n s → Sound n ss d (s .start) → Sound n ss (suc d) end
-unfolding Sound
-sound-more n ss d end s e a b c = rw (← e) (a, (b, c))
-
 -- the same where the slot's place is given
 pub stack-at : (ss : List Slot) (depth : ℕ) (ts : List Term) (end at : ℕ) → depth ≡ at + 1 → (s : Slot) → s ≡ getD ss at noSlot
     → stackOf ss depth ts end ≡ nodeOf s ts end ∷ stackOf ss at ts (s .start)
