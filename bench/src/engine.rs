@@ -5,10 +5,12 @@ mod rest;
 use rest::{angle_stats, pass, qasm, symbolic_angle};
 mod circuit;
 mod cnot_min;
+mod random;
 
 use angle::Angle;
 use circuit::Gate;
 use cnot_min::doors;
+use random::Random;
 use std::hint::black_box;
 use std::time::Instant;
 
@@ -19,21 +21,6 @@ unsafe extern "C" {
         room: *mut u64, room_len: usize, nodes: *mut u64, nodes_len: usize, held: *mut u64, held_len: usize,
         names: *const u32, names_len: usize, out: *mut i32, out_len: usize, two: usize, all: usize,
     ) -> usize;
-}
-
-/// A small generator of random numbers, so that the inputs are the same in every run.
-struct Random(u64);
-
-impl Random {
-    fn next(&mut self) -> u64 {
-        self.0 ^= self.0 << 13;
-        self.0 ^= self.0 >> 7;
-        self.0 ^= self.0 << 17;
-        self.0.wrapping_mul(0x2545_f491_4f6c_dd1d)
-    }
-    fn below(&mut self, n: usize) -> usize {
-        (self.next() >> 33) as usize % n
-    }
 }
 
 fn mask(n: usize) -> u128 {

@@ -6,8 +6,10 @@ use rest::{angle_stats, pass, qasm, symbolic_angle};
 mod circuit;
 mod cnot_min;
 mod gates;
+mod random;
 
 use circuit::Circuit;
+use random::Random;
 use std::hint::black_box;
 use std::time::Instant;
 
@@ -17,21 +19,6 @@ unsafe extern "C" {
         out: *mut i32, out_len: usize, terms: *mut u64, terms_len: usize, steps: *mut u32, steps_len: usize,
         counts: *mut [u64; 8],
     ) -> u64;
-}
-
-/// A small generator of random numbers, so that the lists are the same in every run.
-struct Random(u64);
-
-impl Random {
-    fn next(&mut self) -> u64 {
-        self.0 ^= self.0 << 13;
-        self.0 ^= self.0 >> 7;
-        self.0 ^= self.0 << 17;
-        self.0.wrapping_mul(0x2545_f491_4f6c_dd1d)
-    }
-    fn below(&mut self, n: usize) -> usize {
-        (self.next() >> 33) as usize % n
-    }
 }
 
 /// The port's rooms, exactly as long as a list needs.
