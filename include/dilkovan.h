@@ -52,7 +52,7 @@ uint64_t dilkovan_cnot_min(const int32_t *list, size_t list_length, size_t wires
  *
  * Answers 0 when the list was taken, and 1 when it was refused. In either case `out` begins with what is printed, *length bytes of it with
  * no 0 behind them: the head, the new gates and the counts; or one line, "refused NUMBER PLACE". The rest of `out` is not written, nor is
- * the text. Its own tables are on the stack: 79,127 bytes was the deepest measured. */
+ * the text. Its own tables are on the stack: 80,040 bytes was the deepest measured. */
 uint64_t dilkovan_list(const uint8_t *text, size_t text_length, uint8_t out[DILKOVAN_LIST_BYTES], size_t *length);
 
 #ifdef __cplusplus
