@@ -1,8 +1,10 @@
 //! Times parts of the engine beside the original's own text: the same inputs, many different ones in turn, outputs compared.
 #![allow(dead_code)]
 mod angle;
+mod qasm;
 mod rest;
-use rest::{angle_stats, pass, qasm, symbolic_angle};
+#[allow(unused_imports)]
+use rest::*;
 mod circuit;
 mod cnot_min;
 mod random;

@@ -1,8 +1,10 @@
 //! Times the whole pass beside the original's own text: the same lists, several different ones in turn, outputs compared.
 #![allow(dead_code)]
 mod angle;
+mod qasm;
 mod rest;
-use rest::{angle_stats, pass, qasm, symbolic_angle};
+#[allow(unused_imports)]
+use rest::*;
 mod circuit;
 mod cnot_min;
 mod gates;

@@ -1,9 +1,9 @@
 //! A gate as five numbers, by document 01's table, and as the original has it.
-use crate::angle::Angle;
 use crate::circuit::Gate;
+use crate::rest;
 
 pub fn gate(n: &[i32]) -> Gate {
-    let (a, b, c, turn) = (n[1] as u32, n[2] as u32, n[3] as u32, Angle(n[4]));
+    let (a, b, c, turn) = (n[1] as u32, n[2] as u32, n[3] as u32, rest::angle(n[4]));
     let (control, target) = (a, b);
     match n[0] {
         1 => Gate::x(a),
@@ -47,23 +47,23 @@ pub fn numbers(g: &Gate) -> [i32; 5] {
         Gate::s(q) => one(4, q),
         Gate::sdg(q) => one(5, q),
         Gate::z(q) => one(6, q),
-        Gate::rz(k, q) => [7, *q as i32, 0, 0, k.0],
+        Gate::rz(k, q) => [7, *q as i32, 0, 0, rest::turn(k)],
         Gate::cnot { control, target } => two(8, control, target),
         Gate::cz { control, target } => two(9, control, target),
         Gate::h(q) => one(10, q),
         Gate::y(q) => one(11, q),
         Gate::sx(q) => one(12, q),
         Gate::reset(q) => one(13, q),
-        Gate::p(k, q) => [14, *q as i32, 0, 0, k.0],
-        Gate::rx(k, q) => [15, *q as i32, 0, 0, k.0],
-        Gate::ry(k, q) => [16, *q as i32, 0, 0, k.0],
+        Gate::p(k, q) => [14, *q as i32, 0, 0, rest::turn(k)],
+        Gate::rx(k, q) => [15, *q as i32, 0, 0, rest::turn(k)],
+        Gate::ry(k, q) => [16, *q as i32, 0, 0, rest::turn(k)],
         Gate::swap(p, q) => two(17, p, q),
         Gate::cy { control, target } => two(18, control, target),
         Gate::ch { control, target } => two(19, control, target),
-        Gate::cp { lambda, control, target } => [20, *control as i32, *target as i32, 0, lambda.0],
-        Gate::crx { theta, control, target } => [21, *control as i32, *target as i32, 0, theta.0],
-        Gate::cry { theta, control, target } => [22, *control as i32, *target as i32, 0, theta.0],
-        Gate::crz { theta, control, target } => [23, *control as i32, *target as i32, 0, theta.0],
+        Gate::cp { lambda, control, target } => [20, *control as i32, *target as i32, 0, rest::turn(lambda)],
+        Gate::crx { theta, control, target } => [21, *control as i32, *target as i32, 0, rest::turn(theta)],
+        Gate::cry { theta, control, target } => [22, *control as i32, *target as i32, 0, rest::turn(theta)],
+        Gate::crz { theta, control, target } => [23, *control as i32, *target as i32, 0, rest::turn(theta)],
         Gate::ccx { control1, control2, target } => [24, *control1 as i32, *control2 as i32, *target as i32, 0],
         Gate::ccz { control1, control2, target } => [25, *control1 as i32, *control2 as i32, *target as i32, 0],
         Gate::cswap { control, first, second } => [26, *control as i32, *first as i32, *second as i32, 0],

@@ -5,8 +5,10 @@
 //!     oracle answer                                     answers cases from standard input, as `batch_main` must
 #![allow(dead_code)]
 mod angle;
+mod qasm;
 mod rest;
-use rest::{angle_stats, pass, qasm, symbolic_angle};
+#[allow(unused_imports)]
+use rest::*;
 // the two texts of the original; `build` puts them here, the second as it is and the first with the one function that it lacks
 mod circuit;
 mod cnot_min;

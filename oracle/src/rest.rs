@@ -1,18 +1,18 @@
-//! Stand-ins for what else the original names: never reached, since no angle here is symbolic.
+//! Stand-ins for what else the original names: never reached, since no angle here is symbolic. `oracle/build --whole` takes the original's own
+//! texts in their place (oracle/whole/rest.rs).
+use crate::angle::Angle;
+
+/// The angle of a turn, and the turn of an angle.
+pub fn angle(turn: i32) -> Angle {
+    Angle(turn)
+}
+
+pub fn turn(angle: &Angle) -> i32 {
+    angle.0
+}
 
 pub mod angle_stats {
     pub fn failure(_: crate::angle::AngleError) {}
-}
-
-pub mod qasm {
-    use crate::circuit::Circuit;
-    pub type ParseError = String;
-    pub fn serialize(_: &Circuit) -> String {
-        String::new()
-    }
-    pub fn parse(_: &str) -> Result<Circuit, String> {
-        Err(String::new())
-    }
 }
 
 pub mod symbolic_angle {
