@@ -1,4 +1,5 @@
 mod Tests
+mod First
 mod Steps
 mod Faultless
 mod Tally

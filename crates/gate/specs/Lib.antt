@@ -4,3 +4,4 @@ pub mod Reading
 pub mod Writing
 pub mod Counting
 pub mod Plain
+pub mod Numbered

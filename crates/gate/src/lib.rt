@@ -26,6 +26,7 @@ ghost use Rattle.gate.specs.Reading.{Reads};
 ghost use Rattle.gate.specs.Writing.{placed, gateOf, Small};
 ghost use Rattle.gate.specs.Counting.{having};
 ghost use Rattle.gate.specs.Plain as Plain;
+ghost use Rattle.gate.specs.Numbered.{numbered};
 
 // The opaque codes at which a run of the table begins or ends.
 const CODE_P: u32 = 14;
@@ -148,21 +149,19 @@ fn apart(c: u32, x: i32, y: i32, z: i32) -> bool
     !(second(c) & same(x, y)) & !(third(c) & (same(x, z) | same(y, z)))
 }
 
-// The first that fails, or 0.
-fn ordered(coded: bool, unused: bool, ranged: bool, apart: bool) -> u8
-    ensures { λ r. ⌜ r ≡ Refusals.ordered coded unused ranged apart ⌝ }
+// The number of the first test that fails, or 0 where none does.
+fn first_of(fails: &[bool], numbers: &[u8]) -> u8
+    requires { ⌜ length (now fails) ≤ length (now numbers) ⌝ }
+    ensures { λ r. ⌜ r ≡ Refusals.firstOf (numbered (now (fails .entry)) (now (numbers .entry))) ⌝ }
 {
-    if !coded {
-        6
-    } else if !unused {
-        7
-    } else if !ranged {
-        8
-    } else if !apart {
-        9
-    } else {
-        0
+    let mut i = 0;
+    while i < fails.len() {
+        if fails[i] {
+            return numbers[i];
+        }
+        i += 1;
     }
+    0
 }
 
 // A gate on one wire, with a turn only where the code is rz.
@@ -193,12 +192,14 @@ fn fault(wires: usize, bits: usize, code: i32, x: i32, y: i32, z: i32, t: i32) -
     if plain(c, wires, x, y, z, t) {
         return 0;
     }
-    ordered(
-        from(CODE_X, CODE_MEASURE, c),
-        unused(c, y, z, t),
-        ranged(c, wires, bits, x, y, z),
-        apart(c, x, y, z),
-    )
+    let fails = [
+        !from(CODE_X, CODE_MEASURE, c),
+        !unused(c, y, z, t),
+        !ranged(c, wires, bits, x, y, z),
+        !apart(c, x, y, z),
+    ];
+    let numbers = [6u8, 7, 8, 9];
+    first_of(&fails, &numbers)
 }
 
 // The refusal of the gate at a place, 6 to 9, or 0 for none.
@@ -256,20 +257,17 @@ pub fn check_list(
 {
     let n = list.len();
     let g = n / GATE_WIDTH;
-    if n % GATE_WIDTH != 0 {
-        return refused(1, 0);
-    }
-    if MAX_GATES < g {
-        return refused(2, 0);
-    }
-    if (MAX_WIRES < wires) | (MAX_BITS < bits) {
-        return refused(3, 0);
-    }
-    if out < n {
-        return refused(4, 0);
-    }
-    if (terms / TERM_WIDTH < GATE_TERMS * g) | (steps / STEP_WIDTH < g + MAX_COLUMNS) {
-        return refused(5, 0);
+    let fails = [
+        n % GATE_WIDTH != 0,
+        MAX_GATES < g,
+        (MAX_WIRES < wires) | (MAX_BITS < bits),
+        out < n,
+        (terms / TERM_WIDTH < GATE_TERMS * g) | (steps / STEP_WIDTH < g + MAX_COLUMNS),
+    ];
+    let numbers = [1u8, 2, 3, 4, 5];
+    let number = first_of(&fails, &numbers);
+    if number != 0 {
+        return refused(number, 0);
     }
     check_gates(list, wires, bits, g)
 }

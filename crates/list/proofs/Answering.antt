@@ -32,7 +32,7 @@ use Rattle.reading.specs.declared.Read.the-variants.{Good}
 use Rattle.reading.proofs.Spelling.{text-read}
 use Rattle.list.specs.Answer.{headNumbers, countNumbers, refusal, judged, listed, readAs, answer}
 use Rattle.list.specs.Told.{Few, Small}
-use Rattle.list.proofs.Places.{placeOf, verdict-place}
+use Rattle.rules.proofs.Accepting.{placeOf, verdict-place}
 use Rattle.list.proofs.Few.{counts-small}
 
 -- ---- the list, by what the check says of it

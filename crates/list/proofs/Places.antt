@@ -1,43 +1,16 @@
--- Every place that is printed is small: the lines of a text that was not read, and the gates of a list.
-use mathlib.Core.Bool.{not, _||_}
+-- Every line that is told of is small: that of a text that was not read.
 use mathlib.Core.List.{List, [], _∷_, _++_}
-use Prim.Native.Nat.{ℕ, zero, suc, _+_, _/_, _%_, _≤_}
+use Prim.Native.Nat.{ℕ, zero, suc, _+_, _≤_}
 use native.Mathlib.Omega.{arith}
 use borrow.Author.Tests.{ltb-false}
-use lib.Dec.{eqb, ltb}
+use lib.Dec.{ltb}
 use lib.IntN.{ℤ}
-use lib.ListN.{length}
 use Rattle.rules.specs.Limits as Limits
-use Rattle.rules.specs.Limits.{width, maxWires, maxBits, termWidth, stepWidth, termEntries, stepEntries}
-use Rattle.rules.specs.Refusal.{Verdict, accepted, refused, faultAt, faultsFrom, verdict}
+use Rattle.rules.specs.Limits.{width}
 use Rattle.rules.proofs.Bits.{split}
 use Rattle.text.specs.Reading.{Found, none, found, onward, word, naturalLine, countLine}
 use Rattle.reading.specs.Lines.{Lines, bad, good, line}
 use Rattle.reading.specs.Reading.{Head, headWord, gatesWord, headAt, row, Rows, rows, Read, malformed, many, read, listGates, finished, counted, headed, readText}
-
--- ---- gates
-
-abbrev pub placeOf : Verdict → ℕ
-placeOf accepted = 0
-placeOf (refused r) = r .place
-
-fault-place : (l : List ℤ) (w b n i : ℕ) → placeOf (faultsFrom l w b n i) ≤ i + n
-unfolding faultsFrom
-fault-place l w b zero i = omega arith
-fault-place l w b (suc n) i = split (eqb (faultAt l w b i) 0) (λ e. rw e (omega (arith, fault-place l w b n (suc i)))) (λ e. rw e (omega arith))
-
-pub verdict-place : (l : List ℤ) (w b out terms steps : ℕ) → placeOf (verdict l w b out terms steps) ≤ length l / width
-unfolding verdict
-verdict-place l w b out terms steps =
-    let g : ℕ = length l / width in
-    split (not (eqb (length l % width) 0)) (λ e. rw e (omega arith))
-    (λ e. split (ltb Limits.maxGates g) (λ f. rw (e, f) (omega arith))
-    (λ f. split (ltb maxWires w || ltb maxBits b) (λ h. rw (e, f, h) (omega arith))
-    (λ h. split (ltb out (length l)) (λ i. rw (e, f, h, i) (omega arith))
-    (λ i. split (ltb (terms / termWidth) (termEntries g) || ltb (steps / stepWidth) (stepEntries g)) (λ j. rw (e, f, h, i, j) (omega arith))
-    (λ j. rw (e, f, h, i, j) (omega (arith, fault-place l w b g zero)))))))
-
--- ---- lines
 
 -- the number of the wrong line, or of the next one
 abbrev number : {A : Type 0} → Lines A → ℕ

@@ -30,7 +30,7 @@ three-or-gates bs h ns e =
     let four : ltb (length ns) (length ns) ≡ false = le-ltb (length ns) (length ns) (omega arith) in
     let five : ltb (termWidth * termEntries g / termWidth) (termEntries g) ≡ false = le-ltb (termWidth * termEntries g / termWidth) (termEntries g) (omega arith) in
     let five′ : ltb (stepWidth * stepEntries g / stepWidth) (stepEntries g) ≡ false = le-ltb (stepWidth * stepEntries g / stepWidth) (stepEntries g) (omega arith) in
-    rw (one, two, four, five, five′)
+    rw (one, two, four, five, five′) (split (ltb maxWires (h .wires) || ltb maxBits (h .bits)) (λ t. rw t) (λ t. rw t))
 
 -- ---- 12 is told of line 6
 

@@ -13,7 +13,7 @@ use lib.ListN.{length, getD}
 use Rattle.rules.specs.Limits.{width, lastCode, maxGates, maxWires, maxBits, termWidth, stepWidth, termEntries, stepEntries}
 use Rattle.rules.specs.Gate.{Gate, from, second, bitted, third, turned}
 use Rattle.rules.specs.Numbers.{natOf, inside, same, field, gateAt, gatesFrom, gatesOf, numbersOf}
-use Rattle.rules.specs.Refusal.{Refusal, Verdict, accepted, refused, nought, unused, ranged, apart, ordered, faultOf, faultAt, faultsFrom, verdict}
+use Rattle.rules.specs.Refusal.{Refusal, Verdict, accepted, refused, ruled, nought, unused, ranged, apart, faultOf, faultAt, wholeFault, faultsFrom, verdict}
 use Rattle.rules.proofs.Bits.{split}
 use Rattle.rules.proofs.Reading.{field-after, length-numbers, Natural, write-natural}
 
@@ -32,13 +32,14 @@ pub record Accepted (l : List ℤ) (w b out terms steps : ℕ) : Type 0 where
 not-refused : (r : Refusal) → refused r ≡ accepted → ⊥
 not-refused r e = let z : _≡_ {A = ℕ} 0 1 = cc in omega arith
 
-past : (t : Bool) (r : Refusal) (v : Verdict) → cond t (refused r) v ≡ accepted → (t ≡ false) × (v ≡ accepted)
-past true r v e = absurd (not-refused r e)
-past false r v e = (refl, e)
+-- what is accepted has no fault, and the rest is accepted
+past : (k p : ℕ) (v : Verdict) → ruled k p v ≡ accepted → (k ≡ 0) × (v ≡ accepted)
+past k p v e = split (eqb k 0) (λ f. (eqb-true k 0 f, rw f at e)) (λ f. absurd (not-refused _ (rw f at e)))
 
-through : (t : Bool) (r : Refusal) (v : Verdict) → cond t v (refused r) ≡ accepted → (t ≡ true) × (v ≡ accepted)
-through true r v e = (refl, e)
-through false r v e = absurd (not-refused r e)
+-- no test fails where the first number is 0
+none-first : (t : Bool) (k n : ℕ) → cond t (suc k) n ≡ 0 → (t ≡ false) × (n ≡ 0)
+none-first true k n e = absurd (omega arith)
+none-first false k n e = (refl, e)
 
 neither : (s t : Bool) → (s || t) ≡ false → (s ≡ false) × (t ≡ false)
 neither false t h = (refl, h)
@@ -49,10 +50,10 @@ unfolding faultsFrom
 faults-each l w b zero i e j h = absurd (not-suc-le-zero h)
 faults-each l w b (suc n) i e zero h =
     let z : i + zero ≡ i = omega arith in
-    rw z (eqb-true (faultAt l w b i) 0 (through (eqb (faultAt l w b i) 0) _ (faultsFrom l w b n (suc i)) e .0))
+    rw z (past (faultAt l w b i) i (faultsFrom l w b n (suc i)) e .0)
 faults-each l w b (suc n) i e (suc j) h =
     let z : i + suc j ≡ suc i + j = omega arith in
-    rw z (faults-each l w b n (suc i) (through (eqb (faultAt l w b i) 0) _ (faultsFrom l w b n (suc i)) e .1) j (le-of-suc-le-suc h))
+    rw z (faults-each l w b n (suc i) (past (faultAt l w b i) i (faultsFrom l w b n (suc i)) e .1) j (le-of-suc-le-suc h))
 
 each-faults : (l : List ℤ) (w b n i : ℕ) → ((j : ℕ) → j < n → faultAt l w b (i + j) ≡ 0) → faultsFrom l w b n i ≡ accepted
 unfolding faultsFrom
@@ -66,11 +67,12 @@ pub accepted-is : (l : List ℤ) (w b out terms steps : ℕ) → verdict l w b o
 unfolding verdict
 accepted-is l w b out terms steps e =
     let g : ℕ = length l / width in
-    let p1 = past (not (eqb (length l % width) 0)) _ _ e in
-    let p2 = past (ltb maxGates g) _ _ (p1 .1) in
-    let p3 = past (ltb maxWires w || ltb maxBits b) _ _ (p2 .1) in
-    let p4 = past (ltb out (length l)) _ _ (p3 .1) in
-    let p5 = past (ltb (terms / termWidth) (termEntries g) || ltb (steps / stepWidth) (stepEntries g)) _ _ (p4 .1) in
+    let p = past (wholeFault (length l) g w b out terms steps) zero (faultsFrom l w b g zero) e in
+    let p1 = none-first (not (eqb (length l % width) 0)) 0 _ (p .0) in
+    let p2 = none-first (ltb maxGates g) 1 _ (p1 .1) in
+    let p3 = none-first (ltb maxWires w || ltb maxBits b) 2 _ (p2 .1) in
+    let p4 = none-first (ltb out (length l)) 3 _ (p3 .1) in
+    let p5 = none-first (ltb (terms / termWidth) (termEntries g) || ltb (steps / stepWidth) (stepEntries g)) 4 _ (p4 .1) in
     let n3 = neither (ltb maxWires w) (ltb maxBits b) (p3 .0) in
     let n5 = neither (ltb (terms / termWidth) (termEntries g)) (ltb (steps / stepWidth) (stepEntries g)) (p5 .0) in
     record {
@@ -81,7 +83,7 @@ accepted-is l w b out terms steps e =
       room = ltb-false out (length l) (p4 .0);
       term-room = ltb-false (terms / termWidth) (termEntries g) (n5 .0);
       step-room = ltb-false (steps / stepWidth) (stepEntries g) (n5 .1);
-      each = λ i h. let z : zero + i ≡ i = omega arith in rw z at (faults-each l w b g zero (p5 .1) i h);
+      each = λ i h. let z : zero + i ≡ i = omega arith in rw z at (faults-each l w b g zero (p .1) i h);
     }
 
 pub is-accepted : (l : List ℤ) (w b out terms steps : ℕ) → Accepted l w b out terms steps → verdict l w b out terms steps ≡ accepted
@@ -98,6 +100,37 @@ is-accepted l w b out terms steps a =
       le-ltb (steps / stepWidth) (stepEntries g) (a .step-room),
     )
     (each-faults l w b g zero (λ j hj. let z : zero + j ≡ j = omega arith in rw z (a .each j hj)))
+
+-- ---- where a refusal stands
+
+abbrev pub placeOf : Verdict → ℕ
+placeOf accepted = 0
+placeOf (refused r) = r .place
+
+ruled-place : (k p m : ℕ) (v : Verdict) → p ≤ m → (k ≡ 0 → placeOf v ≤ m) → placeOf (ruled k p v) ≤ m
+ruled-place k p m v h f = split (eqb k 0) (λ e. rw e (f (eqb-true k 0 e))) (λ e. rw e h)
+
+faults-place : (l : List ℤ) (w b n i : ℕ) → placeOf (faultsFrom l w b n i) ≤ i + n
+unfolding faultsFrom
+faults-place l w b zero i = omega arith
+faults-place l w b (suc n) i = ruled-place (faultAt l w b i) i (i + suc n) (faultsFrom l w b n (suc i)) (omega arith) (λ e. omega (arith, faults-place l w b n (suc i)))
+
+-- at a gate of the list, and at one of those that a list may have
+pub verdict-place : (l : List ℤ) (w b out terms steps : ℕ) → placeOf (verdict l w b out terms steps) ≤ length l / width
+unfolding verdict
+verdict-place l w b out terms steps =
+    let g : ℕ = length l / width in
+    ruled-place (wholeFault (length l) g w b out terms steps) zero g (faultsFrom l w b g zero) (omega arith) (λ e. omega (arith, faults-place l w b g zero))
+
+pub verdict-few : (l : List ℤ) (w b out terms steps : ℕ) → placeOf (verdict l w b out terms steps) ≤ maxGates
+unfolding verdict
+verdict-few l w b out terms steps =
+    let g : ℕ = length l / width in
+    ruled-place (wholeFault (length l) g w b out terms steps) zero maxGates (faultsFrom l w b g zero) (omega arith)
+    (λ e.
+    let p1 = none-first (not (eqb (length l % width) 0)) 0 _ e in
+    let p2 = none-first (ltb maxGates g) 1 _ (p1 .1) in
+    omega (arith, faults-place l w b g zero, ltb-false maxGates g (p2 .0)))
 
 -- ---- one gate
 
@@ -132,13 +165,6 @@ denied : (s t : Bool) → not (s && t) ≡ true → s ≡ true → t ≡ true �
 denied true true h e f = false≢true h
 denied true false h e f = false≢true f
 denied false t h e f = false≢true e
-
-ordered-none : (p q r s : Bool) → ordered p q r s ≡ 0 → (p ≡ true) × (q ≡ true) × (r ≡ true) × (s ≡ true)
-ordered-none true true true true h = (refl, refl, refl, refl)
-ordered-none true true true false h = absurd (omega arith)
-ordered-none true true false s h = absurd (omega arith)
-ordered-none true false r s h = absurd (omega arith)
-ordered-none false q r s h = absurd (omega arith)
 
 -- a number inside is no negative number
 inside-pos : (z : ℤ) (n : ℕ) → inside z n ≡ true → (pos (natOf z) ≡ z) × (natOf z < n)
@@ -178,8 +204,16 @@ module _ (w b : ℕ) (code x y z t : ℤ) (h : faultOf w b code x y z t ≡ 0) w
   passed : Passed w b code x y z t
   unfolding faultOf
   passed =
-      let n = ordered-none (from 1 lastCode c) (unused c y z t) (ranged c w b x y z) (apart c x y z) h in
-      record { coded = n .0; free = n .1; range = n .2; distinct = n .3 }
+      let p6 = none-first (not (from 1 lastCode c)) 5 _ h in
+      let p7 = none-first (not (unused c y z t)) 6 _ (p6 .1) in
+      let p8 = none-first (not (ranged c w b x y z)) 7 _ (p7 .1) in
+      let p9 = none-first (not (apart c x y z)) 8 _ (p8 .1) in
+      record {
+        coded = not-false (from 1 lastCode c) (p6 .0);
+        free = not-false (unused c y z t) (p7 .0);
+        range = not-false (ranged c w b x y z) (p8 .0);
+        distinct = not-false (apart c x y z) (p9 .0);
+      }
 
   code-in : (1 ≤ c) × (c ≤ lastCode)
   code-in = let k = both (leb 1 c) (leb c lastCode) (passed .coded) in (leb-true 1 c (k .0), leb-true c lastCode (k .1))

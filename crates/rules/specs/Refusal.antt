@@ -1,6 +1,6 @@
 -- The refusals 1 to 9, exactly when each is given, and in their order.
 use mathlib.Core.Bool.{Bool, not, _&&_, _||_, cond}
-use mathlib.Core.List.{List}
+use mathlib.Core.List.{List, [], _∷_}
 use Prim.Native.Nat.{ℕ, zero, suc, _/_, _%_}
 use lib.Dec.{eqb, ltb}
 use lib.IntN.{ℤ, pos}
@@ -17,6 +17,19 @@ pub record Refusal : Type 0 where
 pub data Verdict : Type 0 where
   accepted : Verdict
   refused : Refusal → Verdict
+
+-- tests in their order, each with the number that it gives where it fails: the first of these, or 0 where none fails
+abbrev pub firstOf : List (Bool × ℕ) → ℕ
+firstOf [] = 0
+firstOf (c ∷ cs) = cond (c .0) (c .1) (firstOf cs)
+
+-- every refusal is made here
+abbrev pub refuse : ℕ → ℕ → Verdict
+refuse number place = refused (record { number = number; place = place })
+
+-- refused by that number, at a place; where it is 0, the rest decides
+abbrev pub ruled : ℕ → ℕ → Verdict → Verdict
+ruled number place rest = cond (eqb number 0) rest (refuse number place)
 
 -- ---- one gate: code c, fields x, y, z and turn t, on w wires and b classical bits
 
@@ -35,15 +48,19 @@ ranged c w b x y z = inside x w && ((not (second c) || inside y w) && ((not (bit
 abbrev pub apart : ℕ → ℤ → ℤ → ℤ → Bool
 apart c x y z = not (second c && same x y) && not (third c && (same x z || same y z))
 
--- 6 to 9 in their order, or 0 for none
-abbrev pub ordered : Bool → Bool → Bool → Bool → ℕ
-ordered coded unused ranged apart = cond coded (cond unused (cond ranged (cond apart 0 9) 8) 7) 6
+-- the refusal of a gate of code c, or 0 for none
+abbrev pub gateFault : ℕ → ℕ → ℕ → ℤ → ℤ → ℤ → ℤ → ℕ
+gateFault c w b x y z t =
+    firstOf
+    ((not (from 1 lastCode c), 6)
+    ∷ (not (unused c y z t), 7)
+    ∷ (not (ranged c w b x y z), 8)
+    ∷ (not (apart c x y z), 9)
+    ∷ [])
 
--- the refusal of a gate. A code below 1 reads as 0
+-- a code below 1 reads as 0
 unfoldable pub faultOf : ℕ → ℕ → ℤ → ℤ → ℤ → ℤ → ℤ → ℕ
-faultOf w b code x y z t =
-    let c = natOf code in
-    ordered (from 1 lastCode c) (unused c y z t) (ranged c w b x y z) (apart c x y z)
+faultOf w b code x y z t = gateFault (natOf code) w b x y z t
 
 unfoldable pub faultAt : List ℤ → ℕ → ℕ → ℕ → ℕ
 unfolding faultOf
@@ -53,7 +70,18 @@ faultAt l w b i = faultOf w b (field l i 0) (field l i 1) (field l i 2) (field l
 
 -- a refusal of the list as a whole has the place 0
 abbrev pub whole : ℕ → Verdict
-whole k = refused (record { number = k; place = zero })
+whole k = refuse k zero
+
+-- the refusal of n numbers as g gates, before any gate is looked at, or 0 for none. The rooms are given by how many numbers they hold
+abbrev pub wholeFault : ℕ → ℕ → ℕ → ℕ → ℕ → ℕ → ℕ → ℕ
+wholeFault n g w b out terms steps =
+    firstOf
+    ((not (eqb (n % width) 0), 1)
+    ∷ (ltb maxGates g, 2)
+    ∷ (ltb maxWires w || ltb maxBits b, 3)
+    ∷ (ltb out n, 4)
+    ∷ (ltb (terms / termWidth) (termEntries g) || ltb (steps / stepWidth) (stepEntries g), 5)
+    ∷ [])
 
 -- n gates from place i on, in list order; the place is the gate's index
 unfoldable pub faultsFrom : List ℤ → ℕ → ℕ → ℕ → ℕ → Verdict
@@ -61,16 +89,12 @@ unfolding faultAt
 faultsFrom l w b zero i = accepted
 faultsFrom l w b (suc n) i =
     let rest = faultsFrom l w b n (suc i) in
-    cond (eqb (faultAt l w b i) 0) rest (refused (record { number = faultAt l w b i; place = i }))
+    ruled (faultAt l w b i) i rest
 
--- 1 to 5, then gate by gate. The rooms are given by how many numbers they hold
+-- 1 to 5, then gate by gate
 unfoldable pub verdict : List ℤ → ℕ → ℕ → ℕ → ℕ → ℕ → Verdict
 unfolding faultsFrom
 verdict l w b out terms steps =
     let g = length l / width in
-    cond (not (eqb (length l % width) 0)) (whole 1)
-    (cond (ltb maxGates g) (whole 2)
-    (cond (ltb maxWires w || ltb maxBits b) (whole 3)
-    (cond (ltb out (length l)) (whole 4)
-    (cond (ltb (terms / termWidth) (termEntries g) || ltb (steps / stepWidth) (stepEntries g)) (whole 5)
-    (faultsFrom l w b g zero)))))
+    let rest = faultsFrom l w b g zero in
+    ruled (wholeFault (length l) g w b out terms steps) zero rest

@@ -35,13 +35,19 @@ ranged-requires c κs = search needs
 apart-requires : tie.Need-apart-requires
 apart-requires c κs = search needs
 
-ordered-requires : tie.Need-ordered-requires
-ordered-requires c κs = search needs
+slice-aggregate-first-of : tie.Need-slice-aggregate-first-of
+slice-aggregate-first-of c = search needs
+
+slice-aggregate-first-of-2 : tie.Need-slice-aggregate-first-of-2
+slice-aggregate-first-of-2 c = search needs
+
+first-of-requires : tie.Need-first-of-requires
+first-of-requires c κs = search needs
 
 returns-2 : tie.Need-returns-2
 unfolding faultOf
 returns-2 c =
-    let s = c .before .before .before .before .before .before .before .before in
+    let s = c .before .before .before .before .before .before .before .before .before .before in
     cc (toZ-ofZ w32 (s .args .code) (s .fits .code), toZ-ofZ w32 (s .args .x) (s .fits .x), toZ-ofZ w32 (s .args .y) (s .fits .y), toZ-ofZ w32 (s .args .z) (s .fits .z), toZ-ofZ w32 (s .args .t) (s .fits .t))
 
 pub fault-spec : {M : Type 1} → statement M
@@ -55,5 +61,7 @@ fault-spec =
     unused-requires
     ranged-requires
     apart-requires
-    ordered-requires
+    slice-aggregate-first-of
+    slice-aggregate-first-of-2
+    first-of-requires
     returns-2)
