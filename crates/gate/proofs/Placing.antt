@@ -3,28 +3,35 @@ use mathlib.Core.Path.{_≡_, refl, ap, _∙_}
 use mathlib.Core.List.{List, [], _∷_, _++_, append-assoc}
 use Prim.Native.Nat.{ℕ, suc, _+_, _*_, _≤_}
 use native.Mathlib.Omega.{arith}
-use lib.IntN.{ℤ, pos}
+use lib.IntN.{ℤ}
 use lib.ListN.{length, take, drop, set, length-append, length-drop}
-use lib.Seq.{sets-eq, length-take-le, take-at, drop-at}
+use lib.Seq.{sets, sets-eq, length-take-le, take-at}
 use Rattle.rules.specs.Limits.{width}
 use Rattle.rules.specs.Gate.{Gate}
 use Rattle.rules.specs.Numbers.{numbers, numbersOf}
-use Rattle.gate.specs.declared.Gate.{Gate as Held}
-use Rattle.gate.specs.Reading.{Reads}
-use Rattle.gate.specs.Writing.{placed, Small}
+use Rattle.gate.specs.Writing.{placed}
 
--- the five numbers stored one after another
-pub five-set : (l : List ℤ) (i : ℕ) (g : Gate) {a b c d e : ℤ} → width * i + width ≤ length l
-    → a ≡ pos (g .code) → b ≡ pos (g .first) → c ≡ pos (g .second) → d ≡ pos (g .third) → e ≡ g .turn
-    → set (set (set (set (set l (width * i) a) (width * i + 1) b) (width * i + 2) c) (width * i + 3) d) (width * i + 4) e ≡ placed l i g
+-- a row stored number by number, k places behind j and on
+abbrev stores : List ℤ → ℕ → ℕ → List ℤ → List ℤ
+stores l j k [] = l
+stores l j k (a ∷ r) = stores (set l (j + k) a) j (k + 1) r
+
+stores-sets : (l : List ℤ) (j k : ℕ) (r : List ℤ) → stores l j k r ≡ sets l (j + k) r
+stores-sets l j k [] = refl
+stores-sets l j k (a ∷ r) =
+    let e : j + (k + 1) ≡ suc (j + k) = omega arith in
+    stores-sets (set l (j + k) a) j (k + 1) r ∙ ap (λ (m : ℕ). sets (set l (j + k) a) m r) e
+
+-- a gate's row, its first number apart
+pub row-set : (l : List ℤ) (i : ℕ) (g : Gate) (a : ℤ) (r : List ℤ) → width * i + width ≤ length l → a ∷ r ≡ numbers g → stores (set l (width * i) a) (width * i) 1 r ≡ placed l i g
 unfolding placed
-five-set l i g h p q r s t =
+row-set l i g a r h e =
     let j = width * i in
-    let e1 : j + 1 ≡ suc j = omega arith in
-    let e2 : j + 2 ≡ suc (suc j) = omega arith in
-    let e3 : j + 3 ≡ suc (suc (suc j)) = omega arith in
-    let e4 : j + 4 ≡ suc (suc (suc (suc j))) = omega arith in
-    rw (p, q, r, s, t, e1, e2, e3, e4) (sets-eq (numbers g) l j h)
+    let f : j + 1 ≡ suc j = omega arith in
+    stores-sets (set l j a) j 1 r
+    ∙ ap (λ (m : ℕ). sets (set l j a) m r) f
+    ∙ ap (sets l j) e
+    ∙ sets-eq (numbers g) l j h
 
 numbersOf-snoc : (gs : List Gate) (g : Gate) → numbersOf gs ++ numbers g ≡ numbersOf (gs ++ (g ∷ []))
 unfolding numbersOf

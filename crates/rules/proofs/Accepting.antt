@@ -12,7 +12,7 @@ use lib.IntN.{ℤ, pos, negsuc}
 use lib.ListN.{length, getD}
 use Rattle.rules.specs.Limits.{width, lastCode, maxGates, maxWires, maxBits, termWidth, stepWidth, termEntries, stepEntries}
 use Rattle.rules.specs.Gate.{Gate, from, second, bitted, third, turned}
-use Rattle.rules.specs.Numbers.{natOf, inside, same, field, gateAt, gatesFrom, gatesOf, numbersOf}
+use Rattle.rules.specs.Numbers.{natOf, inside, same, field, gateAt, gatesFrom, gatesOf, numbers, numbersOf}
 use Rattle.rules.specs.Refusal.{Refusal, Verdict, accepted, refused, ruled, nought, unused, ranged, apart, faultOf, faultAt, wholeFault, faultsFrom, verdict}
 use Rattle.rules.proofs.Bits.{split}
 use Rattle.rules.proofs.Reading.{field-after, length-numbers, Natural, write-natural}
@@ -349,10 +349,10 @@ write-read l w b out terms steps e =
 
 -- ---- a list of sound gates, written
 
-fault-after : (c x y z t : ℤ) (l : List ℤ) (w b i : ℕ) → faultAt (c ∷ x ∷ y ∷ z ∷ t ∷ l) w b (suc i) ≡ faultAt l w b i
+fault-after : (r l : List ℤ) → length r ≡ width → (w b i : ℕ) → faultAt (r ++ l) w b (suc i) ≡ faultAt l w b i
 unfolding faultAt
-fault-after c x y z t l w b i =
-    let f : (k : ℕ) → field (c ∷ x ∷ y ∷ z ∷ t ∷ l) (suc i) k ≡ field l i k = field-after c x y z t l i in
+fault-after r l e w b i =
+    let f : (k : ℕ) → field (r ++ l) (suc i) k ≡ field l i k = field-after r l e i in
     rw (f 0, f 1, f 2, f 3, f 4)
 
 pub sound-written : (w b : ℕ) (gs : List Gate) → SoundAll w b gs → (i : ℕ) → i < length gs → faultAt (numbersOf gs) w b i ≡ 0
@@ -360,7 +360,7 @@ unfolding SoundAll numbersOf faultAt
 sound-written w b [] h i k = absurd (not-suc-le-zero k)
 sound-written w b (g ∷ gs) h zero k = h .0
 sound-written w b (g ∷ gs) h (suc i) k =
-    fault-after (pos (g .code)) (pos (g .first)) (pos (g .second)) (pos (g .third)) (g .turn) (numbersOf gs) w b i ∙ sound-written w b gs (h .1) i (le-of-suc-le-suc k)
+    fault-after (numbers g) (numbersOf gs) refl w b i ∙ sound-written w b gs (h .1) i (le-of-suc-le-suc k)
 
 pub sound-accepted : (gs : List Gate) (w b out terms steps : ℕ) → SoundAll w b gs → length gs ≤ maxGates → w ≤ maxWires → b ≤ maxBits → width * length gs ≤ out
     → termEntries (length gs) ≤ terms / termWidth → stepEntries (length gs) ≤ steps / stepWidth → verdict (numbersOf gs) w b out terms steps ≡ accepted

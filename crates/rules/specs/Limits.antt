@@ -32,9 +32,13 @@ termWidth = 3
 abbrev pub stepWidth : ℕ
 stepWidth = 2
 
+-- the terms that a gate adds at most
+abbrev pub gateTerms : ℕ
+gateTerms = 3
+
 -- the entries of each that g gates need
 abbrev pub termEntries : ℕ → ℕ
-termEntries g = 3 * g
+termEntries g = gateTerms * g
 
 abbrev pub stepEntries : ℕ → ℕ
 stepEntries g = g + maxColumns

@@ -47,10 +47,13 @@ pub struct Fixed {
     pub wires: usize,
     pub bits: usize,
     pub columns: usize,
+    pub termwidth: usize,
+    pub stepwidth: usize,
+    pub gateterms: usize,
 }
 
 pub fn limits() -> Fixed
-    ensures { λ r. ⌜ r ≡ record { width = Limits.width; gates = Limits.maxGates; wires = Limits.maxWires; bits = Limits.maxBits; columns = Limits.maxColumns } ⌝ }
+    ensures { λ r. ⌜ r ≡ record { width = Limits.width; gates = Limits.maxGates; wires = Limits.maxWires; bits = Limits.maxBits; columns = Limits.maxColumns; termwidth = Limits.termWidth; stepwidth = Limits.stepWidth; gateterms = Limits.gateTerms } ⌝ }
 {
     Fixed {
         width: GATE_WIDTH,
@@ -58,5 +61,8 @@ pub fn limits() -> Fixed
         wires: MAX_WIRES,
         bits: MAX_BITS,
         columns: MAX_COLUMNS,
+        termwidth: TERM_WIDTH,
+        stepwidth: STEP_WIDTH,
+        gateterms: GATE_TERMS,
     }
 }

@@ -1,5 +1,6 @@
 -- `gate::write` meets its contract.
-use mathlib.Core.Path.{_≡_}
+use mathlib.Core.Path.{_≡_, refl}
+use mathlib.Core.List.{[], _∷_}
 use Prim.Native.Nat.{ℕ, _^_, _<_}
 use native.Mathlib.Omega.{arith}
 use borrow.Author.Needs.{needs}
@@ -9,7 +10,7 @@ use mir.Syntax.{w32}
 use mir.Val.{toZ}
 use mir.ValLaws.{toZ-ofZ}
 use Rattle.gate.specs.Writing.{gateOf}
-use Rattle.gate.proofs.Placing.{five-set}
+use Rattle.gate.proofs.Placing.{row-set}
 use Rattle.gate.proofs.write.Statement.{statement}
 use Rattle.gate.proofs.write.Tie as tie
 
@@ -85,7 +86,8 @@ returns c =
     let s = c .before .before .before .before .before .args in
     let g = s .g in
     let f = c .before .before .before .before .before .pre in
-    five-set (s .out .now) (s .i) (gateOf g) (f .0) (stored (g .code) (f .1 .code)) (stored (g .first) (f .1 .first)) (stored (g .second) (f .1 .second)) (stored (g .third) (f .1 .third)) (stored (g .turn) (omega arith))
+    row-set (s .out .now) (s .i) (gateOf g) (toZ w32 (g .code)) (toZ w32 (g .first) ∷ toZ w32 (g .second) ∷ toZ w32 (g .third) ∷ toZ w32 (g .turn) ∷ []) (f .0)
+    (rw (stored (g .code) (f .1 .code), stored (g .first) (f .1 .first), stored (g .second) (f .1 .second), stored (g .third) (f .1 .third), stored (g .turn) (omega arith)) refl)
 
 pub write-spec : {M : Type 1} → statement M
 write-spec =
