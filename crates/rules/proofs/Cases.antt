@@ -7,7 +7,7 @@ use lib.ListN.{replicate}
 use Rattle.rules.specs.Limits.{width, maxGates, maxWires}
 use Rattle.rules.specs.Refusal.{Verdict, accepted, refused, whole, verdict}
 
--- a list on two wires and one bit, and what is said of it
+-- a list on some wires and one bit, and what is said of it
 pub record Case : Type 0 where
   pub list : List ℤ
   pub wires : ℕ
@@ -32,8 +32,10 @@ second k g = pair g (refused (record { number = k; place = 1 }))
 
 abbrev pub cases : List Case
 cases =
+    -- no gate, on no wire
+    record { list = []; wires = 0; out = 0; terms = 0; steps = 256; answer = accepted }
     -- rz by -8, and a measure whose bit equals its wire
-    pair (gate 7 (pos 1) (pos 0) (pos 0) (negsuc 7)) accepted
+    ∷ pair (gate 7 (pos 1) (pos 0) (pos 0) (negsuc 7)) accepted
     ∷ pair (gate 27 (pos 0) (pos 0) (pos 0) (pos 0)) accepted
     -- a number too few; a gate too many; a wire too many; output, term and step room a number short
     ∷ pair (pos 2 ∷ []) (whole 1)

@@ -1,4 +1,4 @@
--- The order of a node's set never shows in the walk.
+-- The order of a node's set never shows in the walk, nor that of a block's terms in what is emitted.
 use mathlib.Core.Path.{_≡_, refl, sym, ap, ap₂, _∙_, subst}
 use mathlib.Core.Bool.{Bool, true, false, not, _&&_, cond}
 use mathlib.Core.List.{List, [], _∷_, _++_}
@@ -7,8 +7,9 @@ use native.Mathlib.Omega.{arith}
 use lib.ListN.{length}
 use lib.Dec.{leb}
 use Rattle.rules.specs.Bit.{_⊕_, bit, xor}
-use Rattle.rules.specs.Fold.{Term}
+use Rattle.rules.specs.Fold.{Row, Term}
 use Rattle.rules.specs.Walk.{Step, cn, rot, Aim, free, on, owes, side, score, best, crossTerms, turns, leaf, aimWith, isNone, nonzero, phaseWalk, Node, Turn, crossNodes, openNode, aimed, turn, walk}
+use Rattle.rules.specs.Synth.{synth}
 use Rattle.rules.specs.Order.{Shuffled, same, keep, swap, next}
 use Rattle.rules.proofs.Bits.{split}
 use Rattle.rules.proofs.Walking.{crossAll, pay, paid, ifAny, tree}
@@ -112,6 +113,11 @@ shuffled-nonzero (next h k) = next (shuffled-nonzero h) (shuffled-nonzero k)
 -- nor does the order of the table
 pub shuffled-walk : (n : ℕ) {l m : List Term} → Shuffled l m → phaseWalk n l ≡ phaseWalk n m
 shuffled-walk n {l} {m} h = phase-walk n l ∙ shuffled-tree n n (2 ^ n - 1) free (shuffled-nonzero h) ∙ sym (phase-walk n m)
+
+-- nor does it in what a block is written again to
+pub shuffled-synth : (rs : List Row) {l m : List Term} → Shuffled l m → synth (record { rows = rs; terms = l }) ≡ synth (record { rows = rs; terms = m })
+unfolding synth
+shuffled-synth rs h = rw (shuffled-walk (length rs) h)
 
 -- ---- at any turn of the machine: what code that partitions in place has to show of its stack
 

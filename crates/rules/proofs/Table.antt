@@ -1,10 +1,15 @@
--- The small lists of document 01 that are marked P: one table, and the definitions give what it says.
+-- The small lists of document 01, those marked P first: one table, and the definitions give what it says.
 use mathlib.Core.Path.{_≡_, refl}
+use mathlib.Core.Bool.{Bool, true, false, _&&_}
 use mathlib.Core.List.{List, [], _∷_, map}
-use Prim.Native.Nat.{ℕ, zero}
+use Prim.Native.Nat.{ℕ, zero, _+_, _%_}
 use lib.IntN.{ℤ, pos, negsuc}
+use lib.ListN.{length}
 use Rattle.rules.specs.Gate.{Gate, gate1, gate2, codeX, codeT, codeTdg, codeS, codeRz, codeCnot, codeCz}
 use Rattle.rules.specs.Bit.{xor}
+use Rattle.rules.specs.Meaning.{turn8, op, opOf, when1, moved, added, wires, phases, Alike}
+use Rattle.rules.specs.Counts.{twos}
+use Rattle.rules.specs.Synth.{resynthesis}
 use Rattle.rules.specs.Scan.{Result}
 use Rattle.rules.specs.Pass.{pass}
 
@@ -19,6 +24,9 @@ tdg q = gate1 codeTdg q
 
 abbrev s : ℕ → Gate
 s q = gate1 codeS q
+
+abbrev h : ℕ → Gate
+h q = gate1 10 q
 
 abbrev rz : ℤ → ℕ → Gate
 rz k q = record { code = codeRz; first = q; second = zero; third = zero; turn = k }
@@ -60,6 +68,10 @@ cases =
     ∷ kept (rz (pos 3) 0 ∷ rz (pos 3) 1 ∷ rz (pos 3) 2 ∷ cnot 0 1 ∷ cnot 0 1 ∷ [])
     ∷ record { qubits = 1; terms = 512; list = t 0 ∷ t 0 ∷ cnot 0 1 ∷ t 0 ∷ t 0 ∷ []; result = s 0 ∷ cnot 0 1 ∷ s 0 ∷ []; blocks = 2; replaced = 2 }
     ∷ record { qubits = 128; terms = 1; list = rz (pos 0) 0 ∷ t 1 ∷ []; result = t 1 ∷ []; blocks = 2; replaced = 1 }
+    -- not marked: an opaque gate between two blocks; a rotation of a parity that has its term, and of one that would need a term more
+    ∷ plain (t 0 ∷ t 0 ∷ h 0 ∷ t 0 ∷ t 0 ∷ []) (s 0 ∷ h 0 ∷ s 0 ∷ []) 2 2
+    ∷ record { qubits = 128; terms = 1; list = cz 0 1 ∷ t 0 ∷ []; result = cz 0 1 ∷ t 0 ∷ []; blocks = 1; replaced = 0 }
+    ∷ record { qubits = 128; terms = 1; list = cz 0 1 ∷ t 2 ∷ []; result = cz 0 1 ∷ t 2 ∷ []; blocks = 2; replaced = 0 }
     ∷ []
 
 -- what the pass gives, and what the table says
@@ -72,3 +84,41 @@ wanted c = record { gates = c .result; blocks = c .blocks; replaced = c .replace
 pub table : map got cases ≡ map wanted cases
 unfolding pass xor
 table = refl
+
+-- ---- what two of the kept blocks are written again to
+
+-- gates, and CNOT and CZ among them
+abbrev sizes : List Gate → ℕ × ℕ
+sizes gs = (length gs, twos gs)
+
+abbrev three : List Gate
+three = cnot 0 1 ∷ cnot 1 0 ∷ cnot 0 1 ∷ []
+
+abbrev five : List Gate
+five = rz (pos 3) 0 ∷ rz (pos 3) 1 ∷ rz (pos 3) 2 ∷ cnot 0 1 ∷ cnot 0 1 ∷ []
+
+-- "ties at 3"
+pub ties : (resynthesis three ≡ cnot 1 0 ∷ cnot 0 1 ∷ cnot 1 0 ∷ []) × (sizes (resynthesis three) ≡ (3, 3)) × (sizes three ≡ (3, 3))
+unfolding resynthesis xor twos
+ties = (refl, refl, refl)
+
+-- "6 gates against 5", though none of the 6 is a CNOT
+pub longer : (resynthesis five ≡ s 0 ∷ t 0 ∷ s 1 ∷ t 1 ∷ s 2 ∷ t 2 ∷ []) × (sizes (resynthesis five) ≡ (6, 0)) × (sizes five ≡ (5, 2))
+unfolding resynthesis xor twos
+longer = (refl, refl, refl)
+
+-- ---- turns
+
+-- -1, -8, and the least and the greatest number of 32 signed bits
+pub turns : map turn8 (negsuc 0 ∷ negsuc 7 ∷ negsuc 2147483647 ∷ pos 2147483647 ∷ []) ≡ 7 ∷ 0 ∷ 0 ∷ 7 ∷ []
+turns = refl
+
+-- ---- cz01 cz01 acts as the empty list, though it is kept
+
+pub undone : Alike (map op (cz 0 1 ∷ cz 0 1 ∷ [])) []
+unfolding op opOf wires phases moved added
+undone = record { same = λ u q. refl; constant = 0; phase = λ u. twice (u 0 && u 1) }
+  where
+    twice : (b : Bool) → (0 + (when1 b 4 + (when1 b 4 + 0))) % 8 ≡ 0
+    twice true = refl
+    twice false = refl
