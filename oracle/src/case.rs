@@ -2,7 +2,8 @@
 use std::fmt;
 use std::io::{self, Read};
 
-/// A list with all that the entry point is called with. The rooms are how many numbers they have.
+/// A list with all that the entry point is called with. The rooms are how many numbers they have; `ask` is the sum of 1, 2 and 4 for the rooms
+/// that the program is to look at wrongly, as if one number more had to be 0.
 #[derive(Clone)]
 pub struct Case {
     pub wires: u64,
@@ -12,6 +13,7 @@ pub struct Case {
     pub out: u64,
     pub terms: u64,
     pub steps: u64,
+    pub ask: u64,
     pub list: Vec<i32>,
 }
 
@@ -21,33 +23,40 @@ pub enum Answer {
     Done { counts: [u32; 8], gates: Vec<i32> },
 }
 
-/// All three rooms are as promised.
-const RIGHT: u32 = 7;
-
 impl Case {
     /// With rooms that are exactly what the list needs.
     pub fn new(wires: u64, bits: u64, qubit_cap: u64, term_cap: u64, list: Vec<i32>) -> Self {
         let g = list.len() as u64 / 5;
-        Case { wires, bits, qubit_cap, term_cap, out: list.len() as u64, terms: 9 * g, steps: 2 * (g + 128), list }
+        Case { wires, bits, qubit_cap, term_cap, out: list.len() as u64, terms: 9 * g, steps: 2 * (g + 128), ask: 0, list }
     }
 
     pub fn encode(&self, bytes: &mut Vec<u8>) {
-        let head = [self.wires, self.bits, self.qubit_cap, self.term_cap, self.list.len() as u64, self.out, self.terms, self.steps];
+        let head = [self.wires, self.bits, self.qubit_cap, self.term_cap, self.list.len() as u64, self.out, self.terms, self.steps, self.ask];
         bytes.extend(head.iter().flat_map(|x| x.to_le_bytes()));
         bytes.extend(self.list.iter().flat_map(|x| x.to_le_bytes()));
     }
 
+    /// The sum of 1, 2 and 4 for the rooms that must be found right: all three, but for one that is looked at wrongly and goes on where its
+    /// promised numbers end.
+    pub fn right(&self, answer: &Answer) -> u32 {
+        let done = matches!(answer, Answer::Done { .. }) as u64;
+        let g = self.list.len() as u64 / 5;
+        let rooms = [(self.out, 5 * g), (self.terms, 9 * g), (self.steps, 2 * (g + 128))];
+        let wrong = |i: usize| self.ask >> i & 1 == 1 && rooms[i].0 > done * rooms[i].1;
+        (0..3).filter(|&i| !wrong(i)).map(|i| 1 << i).sum()
+    }
+
     /// The next case, or none where the input ends.
     pub fn read(input: &mut impl Read) -> io::Result<Option<Self>> {
-        let mut head = [0; 64];
+        let mut head = [0; 72];
         match input.read_exact(&mut head) {
             Err(e) if e.kind() == io::ErrorKind::UnexpectedEof => return Ok(None),
             other => other?,
         }
-        let [wires, bits, qubit_cap, term_cap, n, out, terms, steps] =
+        let [wires, bits, qubit_cap, term_cap, n, out, terms, steps, ask] =
             std::array::from_fn(|i| u64::from_le_bytes(head[8 * i..8 * i + 8].try_into().unwrap()));
         let list = read_words(input, n as usize)?.into_iter().map(|x| x as i32).collect();
-        Ok(Some(Case { wires, bits, qubit_cap, term_cap, out, terms, steps, list }))
+        Ok(Some(Case { wires, bits, qubit_cap, term_cap, out, terms, steps, ask, list }))
     }
 }
 
@@ -58,14 +67,14 @@ fn read_words(input: &mut impl Read, n: usize) -> io::Result<Vec<u32>> {
 }
 
 impl Answer {
-    /// The words of an answer that leaves all rooms right.
-    pub fn encode(&self, bytes: &mut Vec<u8>) {
+    /// The words of an answer with these rooms right.
+    pub fn encode(&self, right: u32, bytes: &mut Vec<u8>) {
         let mut word = |x: u32| bytes.extend(x.to_le_bytes());
         match self {
-            Answer::Refused { number, place } => [*number, RIGHT, *place].into_iter().for_each(word),
+            Answer::Refused { number, place } => [*number, right, *place].into_iter().for_each(word),
             Answer::Done { counts, gates } => {
                 word(0);
-                word(RIGHT);
+                word(right);
                 counts.iter().for_each(|&x| word(x));
                 gates.iter().for_each(|&x| word(x as u32));
             }
@@ -87,14 +96,14 @@ impl Answer {
         Ok((Answer::Done { counts, gates }, head[1]))
     }
 
-    pub fn same(&self, got: &(Self, u32)) -> bool {
-        *self == got.0 && got.1 == RIGHT
+    pub fn same(&self, right: u32, got: &(Self, u32)) -> bool {
+        *self == got.0 && got.1 == right
     }
 }
 
 impl fmt::Display for Case {
     fn fmt(&self, f: &mut fmt::Formatter<'_>) -> fmt::Result {
-        let Case { wires, bits, qubit_cap, term_cap, out, terms, steps, list } = self;
+        let Case { wires, bits, qubit_cap, term_cap, out, terms, steps, list, .. } = self;
         writeln!(
             f,
             "wires {wires}, bits {bits}, caps {qubit_cap} and {term_cap}, rooms {out}, {terms} and {steps}, {} numbers:",

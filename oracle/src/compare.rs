@@ -117,7 +117,7 @@ fn judge(from: Receiver<Batch>, program: &mut impl Read) -> Result<u64, String> 
             let told = || format!("of kind {}, list {} from 0:\n{case}", KINDS[k].0, tally.lists);
             match Answer::read(program) {
                 Err(e) => return Err(format!("no answer ({e}) to the list {}the original:\n{wanted}", told())),
-                Ok(got) if !wanted.same(&got) => {
+                Ok(got) if !wanted.same(case.right(&wanted), &got) => {
                     let (got, rooms) = got;
                     return Err(format!("a difference at the list {}the original:\n{wanted}the program (rooms {rooms}):\n{got}", told()));
                 }

@@ -32,7 +32,8 @@ fn serve() -> std::io::Result<()> {
     let mut output = std::io::stdout().lock();
     while let Some(case) = case::Case::read(&mut input)? {
         let mut bytes = Vec::new();
-        answer::answer(&case).encode(&mut bytes);
+        let told = answer::answer(&case);
+        told.encode(case.right(&told), &mut bytes);
         output.write_all(&bytes)?;
     }
     Ok(())

@@ -66,6 +66,18 @@ fn rooms(out: &mut Vec<Case>) {
     }
 }
 
+/// Rooms that are looked at wrongly, exact and one number larger, of a list that is written shorter and of one that is refused.
+fn looked(out: &mut Vec<Case>) {
+    for list in [sound(2).repeat(2), vec![0; 5]] {
+        let exact = Case::new(1, 0, 128, 512, list);
+        for more in [0, 1] {
+            for ask in 0..8 {
+                out.push(Case { out: exact.out + more, terms: exact.terms + more, steps: exact.steps + more, ask, ..exact.clone() });
+            }
+        }
+    }
+}
+
 /// The limits from both sides, and lists that have several faults, so that the first in the table's order is told.
 fn limits(out: &mut Vec<Case>) {
     for (wires, bits) in [(0, 0), (0, 1024), (1024, 1024), (1024, 0), (1025, 0), (0, 1025), (u64::MAX, 0), (0, u64::MAX)] {
@@ -122,6 +134,7 @@ fn all(lists: &str, seed: u64) -> io::Result<Vec<Case>> {
     let mut out = fixed(lists)?;
     codes(&mut out);
     rooms(&mut out);
+    looked(&mut out);
     limits(&mut out);
     spans(&mut r, &mut out);
     short::full(2, &mut |case| out.push(case));
@@ -138,7 +151,8 @@ pub fn write(lists: &str, seed: u64, stdin: &str, stdout: &str) -> io::Result<()
     let out = all(lists, seed)?;
     for case in &out {
         case.encode(&mut cases);
-        answer(case).encode(&mut answers);
+        let told = answer(case);
+        told.encode(case.right(&told), &mut answers);
     }
     println!("{} cases, {} bytes, and their answers, {} bytes", out.len(), cases.len(), answers.len());
     fs::write(stdin, cases)?;

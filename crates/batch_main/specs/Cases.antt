@@ -1,6 +1,6 @@
 -- What the helpers of the program keep: a case within the program's arrays, and its list within the flow.
 use Prim.Native.Nat.{ℕ, _+_, _*_, _≤_, _<_}
-use Rattle.flow.specs.Flowing.{Sound}
+use Rattle.flow.specs.Flowing.{Held}
 use Rattle.flow.specs.declared.Flow.{Flow}
 use Rattle.batch_main.specs.declared.Case.{Case}
 use Rattle.batch_main.specs.declared.Ready.{Ready}
@@ -14,7 +14,7 @@ pub record Small (c : Case) : Type 0 where
 
 -- what is taken from a flow: where cases are left, one that fits, with its head and its list among the bytes that wait
 pub record Taken (r : Ready) (f : Flow) (i o : ℕ) : Type 0 where
-  pub sound : Sound (r .flow) i o
+  pub sound : Held (r .flow) i o
   pub counted : r .flow .left ≤ f .left
   pub small : 0 < r .flow .left → Small (r .case)
-  pub there : 0 < r .flow .left → r .flow .at + (64 + 4 * r .case .list) ≤ r .flow .end
+  pub there : 0 < r .flow .left → r .flow .at + (72 + 4 * r .case .list) ≤ r .flow .end

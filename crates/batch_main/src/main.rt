@@ -1,6 +1,7 @@
 // Runs `cnot_min_with` on many cases, from standard input to standard output, all numbers little-endian.
-// A case: eight numbers of 64 bits (wires, classical bits, qubit cap, term cap, and how many numbers the list, the output room, the term room and
-// the step room have), then the list, 32 bits a number. It ends where the input does, or at a list or a room longer than its own.
+// A case: nine numbers of 64 bits (wires, classical bits, qubit cap, term cap, how many numbers the list, the output room, the term room and
+// the step room have, and the sum of 1, 2 and 4 for those rooms that are looked at wrongly: as if one number more had to be 0), then the list,
+// 32 bits a number. It ends where the input does, or at a list or a room longer than its own.
 // An answer, 32 bits a number: the refusal's number or 0; the sum of 1, 2 and 4 for the output, term and step rooms that are as promised; then the
 // place of a refusal, or the eight counts and the new gates.
 use cnot_min::Answer;
@@ -17,7 +18,7 @@ ghost use mathlib.Core.Path.{_≡_};
 ghost use mathlib.Core.Bool.{true};
 ghost use Prim.Native.Nat.{_+_, _*_, _≤_, _<_};
 ghost use lib.ListN.{length};
-ghost use Rattle.flow.specs.Flowing.{Sound};
+ghost use Rattle.flow.specs.Flowing.{Held};
 ghost use Rattle.batch_main.specs.Cases.{Small, Taken};
 
 // A little more than 8,192 gates, and the rooms that so many need.
@@ -27,7 +28,7 @@ const MOST_TERMS: usize = 74000;
 
 const MOST_STEPS: usize = 17000;
 
-const HEAD: usize = 64;
+const HEAD: usize = 72;
 
 struct Case {
     wires: usize,
@@ -38,6 +39,7 @@ struct Case {
     out: usize,
     terms: usize,
     steps: usize,
+    ask: usize,
 }
 
 // A case and the flow that its list waits in; a flow with 0 left where there is none.
@@ -49,7 +51,7 @@ struct Ready {
 // ---- a case and its answer
 
 fn case_at(bytes: &[u8]) -> Case
-    requires { ⌜ 64 ≤ length (now bytes) ⌝ }
+    requires { ⌜ 72 ≤ length (now bytes) ⌝ }
 {
     Case {
         wires: flow::long(bytes, 0),
@@ -60,6 +62,7 @@ fn case_at(bytes: &[u8]) -> Case
         out: flow::long(bytes, 5),
         terms: flow::long(bytes, 6),
         steps: flow::long(bytes, 7),
+        ask: flow::long(bytes, 8),
     }
 }
 
@@ -71,14 +74,15 @@ fn tell_refused(
     steps: &[u32],
     output: &mut [u8],
     used: usize,
+    ask: usize,
 ) -> usize
     requires { ⌜ (used ≤ length (now output)) × (4 ≤ length (now output)) ⌝ }
     ensures { λ r. ⌜ r ≤ length (now (output .entry)) ⌝ }
 {
     let right = marks::rooms_right(
-        marks::out_right(out, 0, 0),
-        marks::terms_right(terms, 0),
-        marks::steps_right(steps, 0),
+        marks::out_right(out, 0, ask % 2),
+        marks::terms_right(terms, ask / 2 % 2),
+        marks::steps_right(steps, ask / 4 % 2),
     );
     let told = [r.number as usize, right, r.place];
     flow::put_counts(output, used, &told)
@@ -93,6 +97,7 @@ fn tell_done(
     steps: &[u32],
     output: &mut [u8],
     used: usize,
+    ask: usize,
 ) -> usize
     requires { ⌜ g ≤ 8200 ⌝ }
     requires { ⌜ (used ≤ length (now output)) × (4 ≤ length (now output)) ⌝ }
@@ -100,9 +105,9 @@ fn tell_done(
 {
     let end = flow::least(GATE_WIDTH * flow::least(c.gatesout, g), out.len());
     let right = marks::rooms_right(
-        marks::out_right(out, end, GATE_WIDTH * g),
-        marks::terms_right(terms, TERM_WIDTH * (GATE_TERMS * g)),
-        marks::steps_right(steps, STEP_WIDTH * (g + MAX_COLUMNS)),
+        marks::out_right(out, end, GATE_WIDTH * g + ask % 2),
+        marks::terms_right(terms, TERM_WIDTH * (GATE_TERMS * g) + ask / 2 % 2),
+        marks::steps_right(steps, STEP_WIDTH * (g + MAX_COLUMNS) + ask / 4 % 2),
     );
     let told = [
         0,
@@ -128,14 +133,15 @@ fn tell(
     steps: &[u32],
     output: &mut [u8],
     used: usize,
+    ask: usize,
 ) -> usize
     requires { ⌜ g ≤ 8200 ⌝ }
     requires { ⌜ (used ≤ length (now output)) × (4 ≤ length (now output)) ⌝ }
     ensures { λ r. ⌜ r ≤ length (now (output .entry)) ⌝ }
 {
     match a {
-        Answer::Refused(r) => tell_refused(r, out, terms, steps, output, used),
-        Answer::Done(c) => tell_done(c, g, out, terms, steps, output, used),
+        Answer::Refused(r) => tell_refused(r, out, terms, steps, output, used, ask),
+        Answer::Done(c) => tell_done(c, g, out, terms, steps, output, used, ask),
     }
 }
 
@@ -174,6 +180,7 @@ fn answer(
         &*steps,
         output,
         used,
+        c.ask,
     )
 }
 
@@ -210,6 +217,7 @@ fn none(f: Flow) -> Ready
             out: 0,
             terms: 0,
             steps: 0,
+            ask: 0,
         },
         flow: Flow {
             at: f.at,
@@ -222,7 +230,7 @@ fn none(f: Flow) -> Ready
 
 // The case whose head was read, once its list is there.
 fn take_list(input: &mut [u8], output: &[u8], c: Case, f: Flow) -> Ready
-    requires { ⌜ Sound f (length (now input)) (length (now output)) × Small c ⌝ }
+    requires { ⌜ Held f (length (now input)) (length (now output)) × Small c ⌝ }
     ensures { λ r. ⌜ Taken r f (length (now (input .entry))) (length (now (output .entry))) ⌝ }
 {
     let whole = HEAD + 4 * c.list;
@@ -235,7 +243,7 @@ fn take_list(input: &mut [u8], output: &[u8], c: Case, f: Flow) -> Ready
 
 // The next case, if there is one that the program has room for.
 fn take(input: &mut [u8], output: &[u8], f: Flow) -> Ready
-    requires { ⌜ Sound f (length (now input)) (length (now output)) ⌝ }
+    requires { ⌜ Held f (length (now input)) (length (now output)) ⌝ }
     ensures { λ r. ⌜ Taken r f (length (now (input .entry))) (length (now (output .entry))) ⌝ }
 {
     let h = flow::fill(&mut *input, output, f, HEAD);
@@ -290,10 +298,10 @@ fn next(
     output: &mut [u8],
     f: Flow,
 ) -> Flow
-    requires { ⌜ Sound f (length (now input)) (length (now output)) × (0 < f .left) ⌝ }
+    requires { ⌜ Held f (length (now input)) (length (now output)) × (0 < f .left) ⌝ }
     requires { ⌜ (41000 ≤ length (now list)) × ((41000 ≤ length (now out)) × ((74000 ≤ length (now terms)) × (17000 ≤ length (now steps)))) ⌝ }
     requires { ⌜ 4 ≤ length (now output) ⌝ }
-    ensures { λ r. ⌜ Sound r (length (now (input .entry))) (length (now (output .entry))) × (r .left < f .left) ⌝ }
+    ensures { λ r. ⌜ Held r (length (now (input .entry))) (length (now (output .entry))) × (r .left < f .left) ⌝ }
 {
     let r = take(&mut *input, &*output, f);
     let c = r.case;

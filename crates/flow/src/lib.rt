@@ -2,9 +2,10 @@
 use libc::STDIN_FILENO;
 use libc::STDOUT_FILENO;
 ghost use mathlib.Core.Path.{_≡_};
-ghost use Prim.Native.Nat.{_+_, _*_, _≤_};
+ghost use Prim.Native.Nat.{_+_, _*_, _≤_, min};
 ghost use lib.ListN.{length};
-ghost use Rattle.flow.specs.Flowing.{Sound};
+ghost use Rattle.flow.specs.Flowing as Flowing;
+ghost use Rattle.flow.specs.Flowing.{Held};
 
 // The bytes of the input from `at` to `end` wait to be used, the first `used` bytes of the output to be written. A proved loop has to end: `left`
 // counts its turns down from a number that no run uses up, and is 0 once the input has ended.
@@ -18,13 +19,16 @@ pub struct Flow {
 // ---- numbers and bytes
 
 // The number of four bytes, the lowest first.
-fn joined(a: u8, b: u8, c: u8, d: u8) -> u32 {
-    a as u32 | ((b as u32) << 8) | ((c as u32) << 16) | ((d as u32) << 24)
+fn joined(a: u8, b: u8, c: u8, d: u8) -> u32
+    ensures { λ r. ⌜ r ≡ Flowing.joined a b c d ⌝ }
+{
+    a as u32 + 256 * b as u32 + 65536 * c as u32 + 16777216 * d as u32
 }
 
 // Number i of the bytes, 32 bits each.
 fn word(bytes: &[u8], i: usize) -> u32
     requires { ⌜ 4 * i + 4 ≤ length (now bytes) ⌝ }
+    ensures { λ r. ⌜ r ≡ Flowing.wordAt (now (bytes .entry)) i ⌝ }
 {
     let at = 4 * i;
     joined(bytes[at], bytes[at + 1], bytes[at + 2], bytes[at + 3])
@@ -33,13 +37,16 @@ fn word(bytes: &[u8], i: usize) -> u32
 // Number i of the bytes, 64 bits each.
 pub fn long(bytes: &[u8], i: usize) -> usize
     requires { ⌜ 8 * i + 8 ≤ length (now bytes) ⌝ }
+    ensures { λ r. ⌜ r ≡ Flowing.longAt (now (bytes .entry)) i ⌝ }
 {
     let low = word(bytes, 2 * i) as usize;
-    low | ((word(bytes, 2 * i + 1) as usize) << 32)
+    low + 4294967296 * word(bytes, 2 * i + 1) as usize
 }
 
 // The signed number with the same bits, and back.
-fn signed(x: u32) -> i32 {
+fn signed(x: u32) -> i32
+    ensures { λ r. ⌜ r ≡ Flowing.signed x ⌝ }
+{
     if x < 2147483648 {
         x as i32
     } else {
@@ -54,6 +61,7 @@ fn unsigned(v: i32) -> u32 {
 // The list's numbers.
 pub fn load(bytes: &[u8], list: &mut [i32])
     requires { ⌜ 4 * length (now list) ≤ length (now bytes) ⌝ }
+    ensures { λ r. ⌜ Flowing.Loaded (now (bytes .entry)) (now (list .exit)) ⌝ }
 {
     for i in 0..list.len() {
         list[i] = signed(word(bytes, i));
@@ -61,7 +69,7 @@ pub fn load(bytes: &[u8], list: &mut [i32])
 }
 
 pub fn least(a: usize, b: usize) -> usize
-    ensures { λ r. ⌜ (r ≤ a) × (r ≤ b) ⌝ }
+    ensures { λ r. ⌜ r ≡ min a b ⌝ }
 {
     if a < b { a } else { b }
 }
@@ -105,8 +113,8 @@ fn read_up(input: &mut [u8], from: usize, n: usize) -> usize
 
 // The flow with n bytes that wait, if so many still come. What was answered is written before the program waits.
 pub fn fill(input: &mut [u8], output: &[u8], f: Flow, n: usize) -> Flow
-    requires { ⌜ Sound f (length (now input)) (length (now output)) ⌝ }
-    ensures { λ r. ⌜ Sound r (length (now (input .entry))) (length (now (output .entry))) × (r .left ≡ f .left) ⌝ }
+    requires { ⌜ Held f (length (now input)) (length (now output)) ⌝ }
+    ensures { λ r. ⌜ Held r (length (now (input .entry))) (length (now (output .entry))) × (r .left ≡ f .left) ⌝ }
 {
     let at = f.at;
     let end = f.end;

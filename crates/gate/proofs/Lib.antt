@@ -1,4 +1,4 @@
-mod Tests
+pub mod Tests
 mod First
 mod Steps
 mod Faultless

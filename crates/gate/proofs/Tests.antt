@@ -1,4 +1,4 @@
--- The machine's tests of signed numbers, as the definitions have them.
+-- The machine's signed numbers and its tests of them, as the definitions have them.
 use mathlib.Core.Path.{_≡_, refl, sym, ap, _∙_}
 use mathlib.Core.Bool.{true, false, true≢false}
 use mathlib.Core.List.{List}
@@ -54,6 +54,12 @@ same-bits (negsuc a) (negsuc b) f g = same-test (2 ^ 32 - suc a) (2 ^ 32 - suc b
 -- what the machine reads back from a number of a list
 pub back : (l : List ℤ) (j : ℕ) → mag (getD l j (pos 0)) < 2 ^ 31 → toZ w32 (ofZ w32 (getD l j (pos 0))) ≡ getD l j (pos 0)
 back l j h = toZ-ofZ w32 (getD l j (pos 0)) (record { sfits = h })
+
+-- what it reads from the bits of a number, each turned over
+pub inverted : (m : ℕ) → m < 2 ^ 31 → toZ w32 (4294967295 - m) ≡ negsuc m
+inverted m h =
+    let e : 4294967295 - m ≡ 2 ^ 32 - suc m = omega arith in
+    rw e (toZ-ofZ w32 (negsuc m) (record { sfits = omega arith }))
 
 -- a gate's code stands first
 pub code-at : (l : List ℤ) (i : ℕ) → getD l (width * i) (pos 0) ≡ field l i 0

@@ -1,6 +1,7 @@
 pub mod Table
 pub mod Bits
 pub mod Flags
+pub mod Filling
 pub mod Folding
 pub mod Masks
 pub mod Walking

@@ -4,12 +4,12 @@ use native.Mathlib.Omega.{arith}
 use borrow.Author.Needs.{needs}
 use lib.ListN.{length}
 use lib.Seq.{length-take-le}
-use Rattle.flow.specs.Flowing.{Sound}
+use Rattle.flow.specs.Flowing.{Held}
 use Rattle.batch_main.proofs.main.Statement.{statement}
 use Rattle.batch_main.proofs.main.Tie as tie
 
 abbrev Inv-loop : tie.InvT-loop
-Inv-loop input₀ list₀ out₀ terms₀ steps₀ output₀ f₀ input list out terms steps output f = Sound f 262144 65536 × ((262144 ≡ length input) × ((41000 ≡ length list) × ((41000 ≡ length out) × ((74000 ≡ length terms) × ((17000 ≡ length steps) × (65536 ≡ length output))))))
+Inv-loop input₀ list₀ out₀ terms₀ steps₀ output₀ f₀ input list out terms steps output f = Held f 262144 65536 × ((262144 ≡ length input) × ((41000 ≡ length list) × ((41000 ≡ length out) × ((74000 ≡ length terms) × ((17000 ≡ length steps) × (65536 ≡ length output))))))
 
 abbrev μ-loop : tie.MeasureT-loop
 μ-loop input₀ list₀ out₀ terms₀ steps₀ output₀ f₀ input list out terms steps output f = f .left
