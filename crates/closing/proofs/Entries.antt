@@ -18,7 +18,7 @@ use Rattle.rules.specs.Walk.{cn}
 use Rattle.rules.specs.Close.{addTo, note}
 use Rattle.rows.specs.Rows.{rowsOf}
 use Rattle.rows.proofs.Room.{two-count, two-put}
-use Rattle.rows.proofs.Turns.{kept-add}
+use Rattle.rows.proofs.Rounds.{kept-add}
 use Rattle.closing.specs.Additions.{stepsOf, held, Noted}
 
 pub step-count : (xs : List ℕ) → length (stepsOf xs) ≡ length xs / 2

@@ -1,4 +1,4 @@
--- Counts by planes: one turn of each carry, and of the pass over the set.
+-- Counts by planes: one round of each carry, and of the pass over the set.
 --     tally-set               what a store of a plane does to a count
 --     half, full              a parity, or two, added to a plane: what stays and what is carried
 --     clear-planes            what they are at the start

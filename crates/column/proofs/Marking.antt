@@ -11,7 +11,7 @@ use native.Mathlib.Omega.{arith}
 use lib.ListN.{length, getD, take}
 use lib.Seq.{take-all}
 use lib.Dec.{eqb, leb}
-use borrow.Author.Tests.{ne-eqb, eqb-true, eqb-false, le-leb, lt-leb}
+use borrow.Author.Tests.{eq-eqb, ne-eqb, eqb-true, eqb-false, le-leb, lt-leb}
 use Rattle.rules.specs.Bit.{_⊕_, bit, xor}
 use Rattle.rules.specs.Fold.{Term}
 use Rattle.rules.specs.Walk.{side, score, beats, best}
@@ -21,7 +21,7 @@ use Rattle.rules.proofs.Choosing.{best-skip, best-take, best-agreed}
 use Rattle.parity.specs.Columns.{Highest}
 use Rattle.parity.proofs.Laws.{bit-high}
 use Rattle.terms.specs.Terms.{noTerm}
-use Rattle.column.specs.Choice.{Agreed, Nearly, Best}
+use Rattle.column.specs.Choice.{Agreed, lone, Nearly, Best}
 use Rattle.column.proofs.Scanning.{with, without, with-next, without-next}
 
 -- ---- the marks
@@ -165,38 +165,47 @@ module _ (ts : List Term) (cands : ℕ) (e : length ts ≡ 1) where
   pub one-agreed : Agreed ts cands cands
   one-agreed = record { fits = λ i h. (h, one-score i); others = λ i h k. absurd (true≢false (sym h ∙ k)) }
 
+  one-lone : (c : ℕ) → lone c ts ≡ true
+  one-lone c =
+      same (without c ts) 1
+      (λ p f. rw f refl)
+      (λ p f. rw f (eq-eqb (with c ts) 1 (omega (arith, length-sides c ts, p))))
+
   pub one-nearly : Nearly ts cands cands
-  one-nearly = record { fits = λ i h. (h, omega (arith, one-score i)); others = λ i h k. absurd (true≢false (sym h ∙ k)) }
+  one-nearly = record { is = λ c. sym (and-true (bit cands c)) ∙ ap (λ (x : Bool). bit cands c && x) (sym (one-lone c)) }
 
 pub nearly-is : (ts : List Term) (cands some two every most n odd both gap r : ℕ) → length ts ≤ n → ((c : ℕ) → Marks cands c (take n ts) some two every most)
     → gap ≡ xor most every → odd ≡ xor some two → ((c : ℕ) → bit both c ≡ (bit cands c && bit odd c)) → ((c : ℕ) → bit r c ≡ (bit gap c || bit both c))
     → Nearly ts cands r
-unfolding score
 nearly-is ts cands some two every most n odd both gap r l m eg ea eb er =
     record {
-      fits = λ i h. let t = sym (is i) ∙ h in (and-left (bit cands i) _ t, near i (and-right (bit cands i) _ t));
-      others = λ i h k s. far i (sym (ap (λ (x : Bool). x && (eqb (without i ts) 1 || eqb (with i ts) 1)) h) ∙ sym (is i) ∙ k) s;
+      is = λ c.
+          let k = rw (take-all n ts l) at (m c) in
+          er c
+          ∙ ap₂ _||_ (ap (λ (v : ℕ). bit v c) eg ∙ bit-xor most every c ∙ ap₂ _⊕_ (k .most-is) (k .every-is))
+          (eb c ∙ ap (λ (x : Bool). bit cands c && x) (ap (λ (v : ℕ). bit v c) ea ∙ bit-xor some two c ∙ ap₂ _⊕_ (k .some-is) (k .two-is)))
+          ∙ marked (bit cands c) (with c ts) (without c ts);
     }
-  where
-    is : (c : ℕ) → bit r c ≡ (bit cands c && (eqb (without c ts) 1 || eqb (with c ts) 1))
-    is c =
-        let k = rw (take-all n ts l) at (m c) in
-        er c
-        ∙ ap₂ _||_ (ap (λ (v : ℕ). bit v c) eg ∙ bit-xor most every c ∙ ap₂ _⊕_ (k .most-is) (k .every-is))
-        (eb c ∙ ap (λ (x : Bool). bit cands c && x) (ap (λ (v : ℕ). bit v c) ea ∙ bit-xor some two c ∙ ap₂ _⊕_ (k .some-is) (k .two-is)))
-        ∙ marked (bit cands c) (with c ts) (without c ts)
 
-    near : (c : ℕ) → (eqb (without c ts) 1 || eqb (with c ts) 1) ≡ true → length ts ≤ score c ts + 1
-    near c e =
+-- their score is at most one below the largest, and where no parities agree that of no other candidate is
+module _ (ts : List Term) (cands r : ℕ) (h : Nearly ts cands r) (c : ℕ) where
+  near-fits : bit r c ≡ true → (bit cands c ≡ true) × (length ts ≤ score c ts + 1)
+  unfolding score
+  near-fits e =
+      let t = sym (h .is c) ∙ e in (
+        and-left (bit cands c) _ t,
         split (eqb (without c ts) 1)
-        (λ f. omega (arith, eqb-true (without c ts) 1 f, length-sides c ts))
-        (λ f. omega (arith, eqb-true (with c ts) 1 (rw f at e), length-sides c ts))
+            (λ f. omega (arith, eqb-true (without c ts) 1 f, length-sides c ts))
+            (λ f. omega (arith, eqb-true (with c ts) 1 (rw f at (and-right (bit cands c) _ t)), length-sides c ts)),
+      )
 
-    far : (c : ℕ) → (true && (eqb (without c ts) 1 || eqb (with c ts) 1)) ≡ false → score c ts < length ts → score c ts + 1 < length ts
-    far c e s =
-        split (eqb (without c ts) 1)
-        (λ f. absurd (true≢false (rw f at e)))
-        (λ f. apart (without c ts) (with c ts) (length ts) (eqb-false (without c ts) 1 f) (eqb-false (with c ts) 1 (rw f at e)) (length-sides c ts) s)
+  near-others : bit cands c ≡ true → bit r c ≡ false → score c ts < length ts → score c ts + 1 < length ts
+  unfolding score
+  near-others k e s =
+      let t : lone c ts ≡ false = sym (ap (λ (x : Bool). x && lone c ts) k) ∙ sym (h .is c) ∙ e in
+      split (eqb (without c ts) 1)
+      (λ f. absurd (true≢false (rw f at t)))
+      (λ f. apart (without c ts) (with c ts) (length ts) (eqb-false (without c ts) 1 f) (eqb-false (with c ts) 1 (rw f at t)) (length-sides c ts) s)
 
 -- ---- the highest of them wins
 
@@ -248,13 +257,13 @@ nearly-best ts cands whole near c a z h t l =
     }
   where
     here : (bit cands c ≡ true) × (length ts ≤ score c ts + 1)
-    here = h .fits c (t .set)
+    here = near-fits ts cands near h c (t .set)
 
     less : (j : ℕ) → bit cands j ≡ true → score j ts < length ts
     less j e = a .others j e (ap (λ (v : ℕ). bit v j) z ∙ bit-zero j)
 
     others : (j : ℕ) → bit cands j ≡ true → bit near j ≡ false → score j ts + 1 < length ts
-    others j e f = h .others j e f (less j e)
+    others j e f = near-others ts cands near h j e f (less j e)
 
     under : (j : ℕ) → bit cands j ≡ true → score j ts ≤ score c ts
     under j e = omega (arith, less j e, here .1)

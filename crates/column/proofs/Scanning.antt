@@ -1,4 +1,4 @@
--- One turn of each loop, over plain lists: the OR over a set, the ones and the zeros of a column, and the scan over the candidates.
+-- One round of each loop, over plain lists: the OR over a set, the ones and the zeros of a column, and the scan over the candidates.
 use mathlib.Core.Path.{_≡_, refl, sym, ap, ap₂, _∙_}
 use mathlib.Core.Bool.{Bool, true, false, _&&_, _||_, cond, true≢false}
 use mathlib.Core.List.{List, [], _∷_}

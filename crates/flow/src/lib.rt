@@ -8,7 +8,7 @@ ghost use Rattle.flow.specs.Flowing as Flowing;
 ghost use Rattle.flow.specs.Flowing.{Held};
 
 // The bytes of the input from `at` to `end` wait to be used, the first `used` bytes of the output to be written. A proved loop has to end: `left`
-// counts its turns down from a number that no run uses up, and is 0 once the input has ended.
+// counts its rounds down from a number that no run uses up, and is 0 once the input has ended.
 pub struct Flow {
     pub at: usize,
     pub end: usize,

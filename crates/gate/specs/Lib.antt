@@ -1,5 +1,5 @@
 -- The definitions that the crate's contracts cite, beside those of `rules`.
-pub mod Told
+pub mod Verdicts
 pub mod Reading
 pub mod Writing
 pub mod Counting

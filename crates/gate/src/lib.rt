@@ -21,7 +21,7 @@ ghost use Rattle.rules.specs.Gate as Codes;
 ghost use Rattle.rules.specs.Numbers as Numbers;
 ghost use Rattle.rules.specs.Refusal as Refusals;
 ghost use Rattle.rules.specs.Counts.{twos, ts};
-ghost use Rattle.gate.specs.Told.{told};
+ghost use Rattle.gate.specs.Verdicts.{verdictOf};
 ghost use Rattle.gate.specs.Reading.{Reads};
 ghost use Rattle.gate.specs.Writing.{placed, gateOf, Small};
 ghost use Rattle.gate.specs.Counting.{having};
@@ -223,7 +223,7 @@ pub fn fault_at(list: &[i32], wires: usize, bits: usize, i: usize) -> u8
 
 // Every refusal is made here.
 fn refused(number: u8, place: usize) -> Verdict
-    ensures { λ r. ⌜ told r ≡ Refusals.refused (record { number = number; place = place }) ⌝ }
+    ensures { λ r. ⌜ verdictOf r ≡ Refusals.refuse number place ⌝ }
 {
     Verdict::Refused(Refusal { number, place })
 }
@@ -231,7 +231,7 @@ fn refused(number: u8, place: usize) -> Verdict
 // The first n gates, in list order.
 fn check_gates(list: &[i32], wires: usize, bits: usize, n: usize) -> Verdict
     requires { ⌜ width * n ≤ length (now list) ⌝ }
-    ensures { λ r. ⌜ told r ≡ Refusals.faultsFrom (now (list .entry)) wires bits n 0 ⌝ }
+    ensures { λ r. ⌜ verdictOf r ≡ Refusals.faultsFrom (now (list .entry)) wires bits n 0 ⌝ }
 {
     let mut i = 0;
     while i < n {
@@ -253,7 +253,7 @@ pub fn check_list(
     terms: usize,
     steps: usize,
 ) -> Verdict
-    ensures { λ r. ⌜ told r ≡ Refusals.verdict (now (list .entry)) wires bits out terms steps ⌝ }
+    ensures { λ r. ⌜ verdictOf r ≡ Refusals.verdict (now (list .entry)) wires bits out terms steps ⌝ }
 {
     let n = list.len();
     let g = n / GATE_WIDTH;

@@ -8,9 +8,9 @@ use Rattle.join.specs.declared.Place.{Place}
 use Rattle.join.specs.declared.Place.the-variants.{At, Nothing}
 
 -- a place as the table's number
-abbrev pub told : Place → ℕ
-told (At i) = suc (i .0)
-told Nothing = zero
+abbrev pub numberOf : Place → ℕ
+numberOf (At i) = suc (i .0)
+numberOf Nothing = zero
 
 -- n wires have joined, and table and names say the same of them
 pub record Joins (table names : List ℕ) (n : ℕ) : Type 0 where

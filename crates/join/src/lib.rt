@@ -4,7 +4,7 @@ ghost use mathlib.Core.Bool.{not};
 ghost use Prim.Native.Nat.{_<_};
 ghost use lib.ListN.{length, getD};
 ghost use lib.Dec.{eqb};
-ghost use Rattle.join.specs.Tables.{told, Joins, Joinable, Enters, Leaves};
+ghost use Rattle.join.specs.Tables.{numberOf, Joins, Joinable, Enters, Leaves};
 
 // A wire of the circuit.
 pub struct Wire(pub u32);
@@ -30,7 +30,7 @@ pub fn wire_of(names: &[u32], i: Local) -> Wire
 // The local index of a wire, if it has joined.
 pub fn place_of(table: &[u32], q: Wire) -> Place
     requires { ⌜ q .0 < length (now table) ⌝ }
-    ensures { λ r. ⌜ told r ≡ getD (now (table .entry)) (q .0) 0 ⌝ }
+    ensures { λ r. ⌜ numberOf r ≡ getD (now (table .entry)) (q .0) 0 ⌝ }
 {
     let at = q.0 as usize;
     let entry = table[at];

@@ -2,4 +2,4 @@
 pub mod Room
 pub mod Sums
 pub mod Search
-pub mod Turns
+pub mod Rounds

@@ -9,7 +9,7 @@ use native.Mathlib.Omega.{arith}
 use lib.ListN.{getD}
 use Rattle.rules.specs.Bit.{bit}
 use Rattle.rules.specs.Close.{firstWith}
-use Rattle.rows.specs.Rows.{told}
+use Rattle.rows.specs.Rows.{foundOf}
 use Rattle.rows.specs.declared.Found.{Found}
 use Rattle.rows.specs.declared.Found.the-variants.{At, Nothing}
 
@@ -27,11 +27,11 @@ module _ (c n r : ℕ) (m : List ℕ) where
   first-hit h b = let e : n - r ≡ suc (n - (r + 1)) = omega arith in rw (e, b)
 
 -- the search's answer, taken apart
-module _ (f : Found) (o : Option ℕ) (e : told f ≡ o) where
-  pub told-at : (p : ℕ) → f ≡ At p → o ≡ some p
-  unfolding told
-  told-at p g = sym e ∙ rw g
+module _ (f : Found) (o : Option ℕ) (e : foundOf f ≡ o) where
+  pub found-at : (p : ℕ) → f ≡ At p → o ≡ some p
+  unfolding foundOf
+  found-at p g = sym e ∙ rw g
 
-  pub told-nothing : f ≡ Nothing → o ≡ none
-  unfolding told
-  told-nothing g = sym e ∙ rw g
+  pub found-none : f ≡ Nothing → o ≡ none
+  unfolding foundOf
+  found-none g = sym e ∙ rw g

@@ -25,9 +25,9 @@ unfolding byTwo
 rowsOf xs = byTwo row xs
 
 -- what a search tells
-unfoldable pub told : Found → Option ℕ
-told (At r) = some r
-told Nothing = none
+unfoldable pub foundOf : Found → Option ℕ
+foundOf (At r) = some r
+foundOf Nothing = none
 
 -- row r, with the parity p, is another than row c and has the column c
 abbrev pub otherHas : ℕ → ℕ → ℕ → Bool

@@ -9,7 +9,7 @@ ghost use lib.ListN.{length, getD, set};
 ghost use Rattle.parity.specs.View.{val, picked};
 ghost use Rattle.rules.specs.Bit.{xor};
 ghost use Rattle.rules.specs.Close.{addTo, swap, firstWith, units, times, clearBoth, inverse, eqRows};
-ghost use Rattle.rows.specs.Rows.{rowsOf, told, otherHas, pair, given};
+ghost use Rattle.rows.specs.Rows.{rowsOf, foundOf, otherHas, pair, given};
 
 // What a search for a row meets.
 pub enum Found {
@@ -56,7 +56,7 @@ pub fn row_times_matrix(row: Parity, m: &[u64]) -> Parity
 // The first row from `from` on that has a column.
 pub fn find(m: &[u64], column: u32, from: usize) -> Found
     requires { ⌜ column < 128 ⌝ }
-    ensures { λ r. ⌜ told r ≡ firstWith column (length (rowsOf (now (m .entry))) - from) from (rowsOf (now (m .entry))) ⌝ }
+    ensures { λ r. ⌜ foundOf r ≡ firstWith column (length (rowsOf (now (m .entry))) - from) from (rowsOf (now (m .entry))) ⌝ }
 {
     let n = m.len() / 2;
     let mut r = from;

@@ -108,14 +108,14 @@ first-none c (suc k) r m e q l h =
 -- ---- the inverse
 
 -- both sides are free, and stay so
-record Sound (n : ℕ) (m : Pairs) : Type 0 where
+record Freed (n : ℕ) (m : Pairs) : Type 0 where
   left-size : length (m .left) ≡ n
   right-size : length (m .right) ≡ n
   left-free : Free n (m .left)
   right-free : Free n (m .right)
 
-sound-swap : (n a b : ℕ) (m : Pairs) → a < n → b < n → Sound n m → Sound n (record { left = swap a b (m .left); right = swap a b (m .right) })
-sound-swap n a b m ha hb s =
+freed-swap : (n a b : ℕ) (m : Pairs) → a < n → b < n → Freed n m → Freed n (record { left = swap a b (m .left); right = swap a b (m .right) })
+freed-swap n a b m ha hb s =
     record {
       left-size = length-swap a b (m .left) ∙ s .left-size;
       right-size = length-swap a b (m .right) ∙ s .right-size;
@@ -123,11 +123,11 @@ sound-swap n a b m ha hb s =
       right-free = free-swap n a b (m .right) (s .right-size) ha hb (s .right-free);
     }
 
-sound-clear : (n c k r : ℕ) (m : Pairs) → c < n → r + k ≤ n → Sound n m → Sound n (clearBoth c k r m)
+freed-clear : (n c k r : ℕ) (m : Pairs) → c < n → r + k ≤ n → Freed n m → Freed n (clearBoth c k r m)
 unfolding clearBoth
-sound-clear n c zero r m hc h s = s
-sound-clear n c (suc k) r m hc h s =
-    sound-clear n c k (suc r) (cond (not (eqb r c) && bit (at (m .left) r) c) (record { left = addTo c r (m .left); right = addTo c r (m .right) }) m) hc (omega arith)
+freed-clear n c zero r m hc h s = s
+freed-clear n c (suc k) r m hc h s =
+    freed-clear n c k (suc r) (cond (not (eqb r c) && bit (at (m .left) r) c) (record { left = addTo c r (m .left); right = addTo c r (m .right) }) m) hc (omega arith)
     (same r c (λ e f. rw f s) (λ e f. split (bit (at (m .left) r) c)
     (λ g. rw (f, g) (record {
       left-size = length-addTo c r (m .left) ∙ s .left-size;
@@ -140,7 +140,7 @@ sound-clear n c (suc k) r m hc h s =
 pub Inverted : ℕ → Option (List ℕ) → Type 0
 Inverted n o = (inv : List ℕ) × (o ≡ some inv) × (length inv ≡ n) × Free n inv
 
-invert-total : (n k c : ℕ) (m : Pairs) → c + k ≡ n → Unit-below n c (m .left) → Sound n m → Inverted n (invertFrom n k c m)
+invert-total : (n k c : ℕ) (m : Pairs) → c + k ≡ n → Unit-below n c (m .left) → Freed n m → Inverted n (invertFrom n k c m)
 unfolding invertFrom Inverted
 invert-total n zero c m h u s = (m .right, refl, s .right-size, s .right-free)
 invert-total n (suc k) c m h u s = go (firstWith c (n - c) c (m .left)) refl (λ m′ u′ s′. invert-total n k (suc c) m′ (omega arith) u′ s′)
@@ -149,7 +149,7 @@ invert-total n (suc k) c m h u s = go (firstWith c (n - c) c (m .left)) refl (λ
     swapped r = record { left = swap c r (m .left); right = swap c r (m .right) }
 
     go : (o : Option ℕ) → firstWith c (n - c) c (m .left) ≡ o
-        → ((m′ : Pairs) → Unit-below n (suc c) (m′ .left) → Sound n m′ → Inverted n (invertFrom n k (suc c) m′))
+        → ((m′ : Pairs) → Unit-below n (suc c) (m′ .left) → Freed n m′ → Inverted n (invertFrom n k (suc c) m′))
         → Inverted n (andThen o (λ r. invertFrom n k (suc c) (clearBoth c n zero (swapped r))))
     go none f ih = absurd (no-pivot n c (m .left) (omega arith) u (s .left-free) (λ r l hr. first-none c (n - c) c (m .left) f r l (omega arith)))
     go (some r) f ih =
@@ -167,7 +167,7 @@ invert-total n (suc k) c m h u s = go (firstWith c (n - c) c (m .left)) refl (λ
         } in
         ih (clearBoth c n zero (swapped r))
         (rw (left-clear n (λ _. false) (λ _. false) c n zero (swapped r)) (next-column n c (clears c n zero (swap c r (m .left))) (clear-all n c n zero (swap c r (m .left)) hc (omega arith) start)))
-        (sound-clear n c n zero (swapped r) hc (omega arith) (sound-swap n c r m hc hr s))
+        (freed-clear n c n zero (swapped r) hc (omega arith) (freed-swap n c r m hc hr s))
 
 pub inverse-total : (n : ℕ) (m : List ℕ) → length m ≡ n → Free n m → Inverted n (inverse m)
 unfolding inverse Inverted Unit-below

@@ -1,8 +1,8 @@
--- CNOTs to t from the columns of a mask pass terms in place, front to back: what the loop knows after k turns.
---     cross-none    before the first turn
+-- CNOTs to t from the columns of a mask pass terms in place, front to back: what the loop knows after k rounds.
+--     cross-none    before the first round
 --     cross-read    the term at k is still the one that the loop began with
---     cross-turn    it is stored with the columns flipped
---     cross-front   after the last turn
+--     cross-round    it is stored with the columns flipped
+--     cross-front   after the last round
 use mathlib.Core.Path.{_≡_, refl, ap, _∙_}
 use mathlib.Core.Bool.{Bool, true, false, cond}
 use mathlib.Core.List.{List, [], _∷_, _++_}
@@ -55,9 +55,9 @@ module _ (m t : ℕ) where
   store (suc k) (x ∷ ts) l = ap (λ (us : List Term). record { parity = flipped m t (x .parity); turn = x .turn } ∷ us) (store k ts (le-of-suc-le-suc l))
 
   -- x is the term that was read, v its parity with the columns flipped
-  pub cross-turn : (k v : ℕ) (x : Term) (ts now : List Term) → now ≡ passed m t k ts → k < length ts → x ≡ getD now k noTerm → v ≡ flipped m t (x .parity)
+  pub cross-round : (k v : ℕ) (x : Term) (ts now : List Term) → now ≡ passed m t k ts → k < length ts → x ≡ getD now k noTerm → v ≡ flipped m t (x .parity)
       → set now k (record { parity = v; turn = x .turn }) ≡ passed m t (k + 1) ts
-  cross-turn k v x ts now e l r h =
+  cross-round k v x ts now e l r h =
       let q : x ≡ getD ts k noTerm = r ∙ ap (λ (us : List Term). getD us k noTerm) e ∙ cross-read k ts in
       rw (add-one k) (rw h (rw e (rw q (store k ts l))))
 

@@ -1,7 +1,7 @@
 -- The place of a parity among the terms: what a search knows on its way, and what a fold does at the place.
 --     place-has              a place below the length says that the table has the parity
 --     place-met, place-new   the fold goes by the place
---     search-next, search-met, search-end    a turn of the search that goes on, and its two ends
+--     search-next, search-met, search-end    a round of the search that goes on, and its two ends
 --     down-none, down-next   the search from the last down
 --     fold-met, fold-new     what one store of the fold leaves in the room
 use mathlib.Core.Path.{_≡_, refl, sym, ap, _∙_}
@@ -49,7 +49,7 @@ place-new p k (t ∷ ts) l =
     (λ e. absurd (not-suc-le-zero (rw e at l)))
     (λ e. rw e (ap (λ (us : List Term). t ∷ us) (place-new p k ts (le-of-suc-le-suc (rw e at l)))))
 
--- ---- the search, among the first n of xs, after i turns
+-- ---- the search, among the first n of xs, after i rounds
 
 module _ (p n i : ℕ) (xs : List Term) (l : n ≤ length xs) where
   size : length (take n xs) ≡ n

@@ -1,11 +1,11 @@
--- Sieving a list in place, front to back: what the loop knows after k turns, of which `mid` kept their term.
+-- Sieving a list in place, front to back: what the loop knows after k rounds, of which `mid` kept their term.
 -- The terms that f drops are not lost: they stand behind those that it leaves, in some order.
---     sieve-none    before the first turn
+--     sieve-none    before the first round
 --     sieve-read    the term at k is still the one that the loop began with
---     sieve-turn    it is exchanged with the one at mid, and mid moves by whether it is kept
---     sieve-front   after the last turn: the terms that are kept, and the rest of the room
---     sieve-spent, sieve-nonzero    a turn and the end, where terms of turn 0 are dropped
---     sieve-column, sieve-sides     a turn and the end, where a whole list is split by a column
+--     sieve-round   it is exchanged with the one at mid, and mid moves by whether it is kept
+--     sieve-front   after the last round: the terms that are kept, and the rest of the room
+--     sieve-spent, sieve-nonzero    a round and the end, where terms of turn 0 are dropped
+--     sieve-column, sieve-sides     a round and the end, where a whole list is split by a column
 use mathlib.Core.Path.{_≡_, refl, sym, ap, _∙_}
 use mathlib.Core.Bool.{Bool, true, false, not, cond}
 use mathlib.Core.List.{List, [], _∷_, _++_, append-assoc, append-nil}
@@ -144,10 +144,10 @@ module _ (f g : Term → Bool) (mid k : ℕ) (start now : List Term) (s : Sieved
         ap (λ (t : List Term). getD t k noTerm) (seen ∙ sym (append-assoc (left f (take k start)) (s .behind) (getD start k noTerm ∷ drop (k + 1) start)))
         ∙ getD-at a (getD start k noTerm) (drop (k + 1) start) noTerm k h
 
-    -- a turn, by whether the term is kept
-    pub sieve-turn : (kept : Bool) → f (getD start k noTerm) ≡ not kept → g (getD start k noTerm) ≡ kept
+    -- a round, by whether the term is kept
+    pub sieve-round : (kept : Bool) → f (getD start k noTerm) ≡ not kept → g (getD start k noTerm) ≡ kept
         → Sieved f g start (exchanged now mid k) (mid + cond kept 1 0) (k + 1)
-    sieve-turn kept p q = go kept p q
+    sieve-round kept p q = go kept p q
       where
         x : Term
         x = getD start k noTerm
@@ -192,7 +192,7 @@ pub sieve-spent : (mid k : ℕ) (x : Term) (start now : List Term) → Sieved sp
     → Sieved spent (λ t. not (spent t)) start (exchanged now mid k) (mid + cond (not (eqb (x .turn % 8) 0)) 1 0) (k + 1)
 sieve-spent mid k x start now s l r =
     let e : spent (getD start k noTerm) ≡ eqb (x .turn % 8) 0 = ap spent (sym (r ∙ sieve-read _ _ mid k start now s l)) ∙ none (x .turn % 8) in
-    sieve-turn _ _ mid k start now s l (not (eqb (x .turn % 8) 0)) (e ∙ twice (eqb (x .turn % 8) 0)) (ap not e)
+    sieve-round _ _ mid k start now s l (not (eqb (x .turn % 8) 0)) (e ∙ twice (eqb (x .turn % 8) 0)) (ap not e)
   where
     none : (n : ℕ) → isNone n ≡ eqb n 0
     none zero = refl
@@ -209,7 +209,7 @@ pub sieve-column : (c mid k : ℕ) (x : Term) (has : Bool) (start now : List Ter
     → x ≡ getD now k noTerm → has ≡ bit (x .parity) c → Sieved (lacks true c) (lacks false c) start (exchanged now mid k) (mid + cond has 1 0) (k + 1)
 sieve-column c mid k x has start now s l r h =
     let e : bit (getD start k noTerm .parity) c ≡ has = ap (λ (t : Term). bit (t .parity) c) (sym (r ∙ sieve-read _ _ mid k start now s l)) ∙ sym h in
-    sieve-turn _ _ mid k start now s l has (ap not e) e
+    sieve-round _ _ mid k start now s l has (ap not e) e
 
 pub sieve-sides : (c mid k : ℕ) (start now : List Term) → length start ≡ k → Sieved (lacks true c) (lacks false c) start now mid k → Sides c start now mid
 sieve-sides c mid k start now l s =

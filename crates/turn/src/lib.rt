@@ -1,7 +1,6 @@
 // A turn counts units of pi/4, so turns are numbers modulo 8. A byte holds one, and may hold it unreduced.
 ghost use mathlib.Core.Path.{_≡_};
-ghost use Prim.Native.Nat.{_+_, _%_};
-ghost use mathlib.Core.Bool.{true};
+ghost use Prim.Native.Nat.{_+_, _-_, _%_};
 ghost use Rattle.rules.specs.Meaning.{turn8};
 ghost use Rattle.rules.specs.Fold as Fold;
 
@@ -13,16 +12,16 @@ pub fn reduce(t: i32) -> u8
     if m < 0 { (m + 8) as u8 } else { m as u8 }
 }
 
-// A sum of turns. It may wrap at 256, a multiple of 8.
+// A sum of turns. It wraps at 256, a multiple of 8.
 pub fn add(a: u8, b: u8) -> u8
-    ensures { λ r. ⌜ r % 8 ≡ (a + b) % 8 ⌝ }
+    ensures { λ r. ⌜ r ≡ (a + b) % 256 ⌝ }
 {
     std::num::wrapping_add_u8(a, b)
 }
 
-// The negated turn: zero minus the turn, which may wrap too.
+// The negated turn: zero minus the turn, which wraps too.
 pub fn negate(a: u8) -> u8
-    ensures { λ r. ⌜ r % 8 ≡ Fold.signed true a ⌝ }
+    ensures { λ r. ⌜ r ≡ (256 - a) % 256 ⌝ }
 {
     std::num::wrapping_sub_u8(0, a)
 }

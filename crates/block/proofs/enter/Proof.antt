@@ -1,7 +1,7 @@
 -- `block::enter` meets its contract: a wire that has joined changes nothing.
 use mathlib.Core.Path.{refl, sym, ap, _∙_}
 use native.Mathlib.Nat.{le-refl}
-use Rattle.join.specs.Tables.{told}
+use Rattle.join.specs.Tables.{numberOf}
 use Rattle.block.proofs.Entering.{enter-old}
 use borrow.Author.Needs.{needs}
 use Rattle.block.proofs.enter.Statement.{statement}
@@ -17,7 +17,7 @@ enum-told : tie.Need-enum-told
 enum-told c = search needs
 
 fresh-requires : tie.Need-fresh-requires
-fresh-requires c κs = (c .before .before .before .before .before .before .before .before .before .before .pre, sym (c .before .before .before .before .before .place-of .ensures) ∙ ap told (c .before .before .before .enum-told .given .1))
+fresh-requires c κs = (c .before .before .before .before .before .before .before .before .before .before .pre, sym (c .before .before .before .before .before .place-of .ensures) ∙ ap numberOf (c .before .before .before .enum-told .given .1))
 
 same-length : tie.Need-same-length
 same-length c = search needs
@@ -37,7 +37,7 @@ same-length-4 c = search needs
 returns-2 : tie.Need-returns-2
 returns-2 c =
     let s = c .before .before .before .before .before .before .before .before in
-    let e = sym (c .before .before .before .place-of .ensures) ∙ ap told (c .before .at .given .1) in
+    let e = sym (c .before .before .before .place-of .ensures) ∙ ap numberOf (c .before .at .given .1) in
     let k = s .pre .rowed .joins .back _ _ e in
     record {
       joined = enter-old (s .pre .rowed) _ _ e;

@@ -10,7 +10,7 @@ use Rattle.rules.specs.Bit.{bit}
 use Rattle.rules.specs.Close.{firstWith, Adds}
 use Rattle.rules.proofs.Closing.{first-is}
 use Rattle.rows.specs.Rows.{rowsOf}
-use Rattle.rows.proofs.Search.{told-at, told-nothing}
+use Rattle.rows.proofs.Search.{found-at, found-none}
 use Rattle.closing.specs.Additions.{held}
 use Rattle.closing.proofs.Entries.{add-held}
 use Rattle.closing.proofs.Columns.{diagonal-have, diagonal-none, diagonal-give, lost-give}
@@ -28,7 +28,7 @@ missing c = cc
 -- the donor
 found : (c : tie.After-donor)
     → let s = (c .before .before .before .before .before .before .before .before .before .before) .args in let m = rowsOf (s .m .now) in firstWith (s .column) (length m - (s .column + 1)) (s .column + 1) m ≡ some (c .donor .given .0 .0)
-found c = told-at _ _ ((c .before .before) .find .ensures) _ (c .donor .given .1)
+found c = found-at _ _ ((c .before .before) .find .ensures) _ (c .donor .given .1)
 
 within : (c : tie.After-donor) → c .donor .given .0 .0 < length (rowsOf ((c .before .before .before .before .before .before .before .before .before .before) .args .m .now))
 within c = let s = (c .before .before .before .before .before .before .before .before .before .before) .args in omega (arith, first-is (s .column) _ (s .column + 1) (rowsOf (s .m .now)) _ (found c) .1, (c .before .before .before .before .before .before .before .before .before .before) .pre .0)
@@ -71,7 +71,7 @@ returns-2 : tie.Need-returns-2
 unfolding held begun
 returns-2 c =
     record {
-      told = rw (diagonal-none _ _ (begun (c .before .before .before .before .before .before .before .before .before .before)) (missing (c .before .before .before .before)) (told-nothing _ _ ((c .before .before) .find .ensures) (c .enum-told .given .1))) tt;
+      told = rw (diagonal-none _ _ (begun (c .before .before .before .before .before .before .before .before .before .before)) (missing (c .before .before .before .before)) (found-none _ _ ((c .before .before) .find .ensures) (c .enum-told .given .1))) tt;
       beyond = refl;
     }
 

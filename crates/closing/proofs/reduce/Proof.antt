@@ -10,7 +10,7 @@ use Rattle.rules.specs.Close.{clear, diagonal, reduceFrom}
 use Rattle.parity.specs.View.{val}
 use Rattle.rows.specs.Rows.{rowsOf, otherHas}
 use Rattle.rows.proofs.Room.{row-count}
-use Rattle.rows.proofs.Turns.{pivot-stays}
+use Rattle.rows.proofs.Rounds.{pivot-stays}
 use Rattle.closing.specs.declared.Closed.the-variants.{Steps}
 use Rattle.closing.specs.Additions.{held, wanted, Filled, Over}
 use Rattle.rules.proofs.Flags.{byte-le}

@@ -19,8 +19,8 @@ At = tie.After-push-by
 pushed : (c : At) → view (c .push-by .result .budget) ≡ Rules.push (gateOf (c .before .before .args .g)) (view (c .before .before .args .b))
 pushed c = c .push-by .ensures .budget ∙ counts-push (gateOf (c .before .before .args .g)) _ (view (c .before .before .args .b)) (sym (c .before .is-two .ensures))
 
-told : (c : At) → c .push-by .result .within ≡ Rules.within (Rules.push (gateOf (c .before .before .args .g)) (view (c .before .before .args .b)))
-told c = c .push-by .ensures .within
+within-is : (c : At) → c .push-by .result .within ≡ Rules.within (Rules.push (gateOf (c .before .before .args .g)) (view (c .before .before .args .b)))
+within-is c = c .push-by .ensures .within
     ∙ ap Rules.within (counts-push (gateOf (c .before .before .args .g)) _ (view (c .before .before .args .b)) (sym (c .before .is-two .ensures)))
 
 is-two-requires : tie.Need-is-two-requires
@@ -33,7 +33,7 @@ write-requires : tie.Need-write-requires
 write-requires c κs =
     let p = c .before .before in
     let t : p .push-by .result .within ≡ true = c .before .if1 .taken in
-    (place-fits _ (view (p .before .before .args .b)) (gateOf (p .before .before .args .g)) (p .before .before .pre .0) (sym (told p) ∙ t), p .before .before .pre .1)
+    (place-fits _ (view (p .before .before .args .b)) (gateOf (p .before .before .args .g)) (p .before .before .pre .0) (sym (within-is p) ∙ t), p .before .before .pre .1)
 
 same-length : tie.Need-same-length
 same-length c = search needs
@@ -42,14 +42,14 @@ returns : tie.Need-returns
 returns c =
     let p = c .before .before .before .before in
     let t : p .push-by .result .within ≡ true = c .before .before .before .if1 .taken in
-    let e = emits-gate _ (view (p .before .before .args .b)) (gateOf (p .before .before .args .g)) (p .before .before .pre .0) (sym (told p) ∙ t) in
+    let e = emits-gate _ (view (p .before .before .args .b)) (gateOf (p .before .before .args .g)) (p .before .before .pre .0) (sym (within-is p) ∙ t) in
     rw (pushed p, t, c .before .write .ensures) e
 
 returns-2 : tie.Need-returns-2
 returns-2 c =
     let p = c .before in
     let t : p .push-by .result .within ≡ false = c .if1 .left in
-    let e = emits-past _ (view (p .before .before .args .b)) (gateOf (p .before .before .args .g)) (p .before .before .pre .0) (sym (told p) ∙ t) in
+    let e = emits-past _ (view (p .before .before .args .b)) (gateOf (p .before .before .args .g)) (p .before .before .pre .0) (sym (within-is p) ∙ t) in
     rw (pushed p, t) e
 
 pub emit-gate-spec : {M : Type 1} → statement M

@@ -7,7 +7,7 @@ use native.Mathlib.Omega.{arith}
 use borrow.Author.Tests.{eq-eqb, ne-eqb}
 use lib.Dec.{eqb}
 use Rattle.rules.specs.Refusal.{refused, faultAt, faultsFrom}
-use Rattle.gate.specs.Told.{told}
+use Rattle.gate.specs.Verdicts.{verdictOf}
 use Rattle.gate.proofs.Steps.{stops, goes-on, ends}
 use Rattle.gate.proofs.check_gates.Statement.{statement}
 use Rattle.gate.proofs.check_gates.Tie as tie
@@ -33,7 +33,7 @@ returns c =
     let i = c .before .before .before .before .loop .i in
     let e = c .before .before .fault-at .ensures in
     let t : eqb (faultAt (s .list .now) (s .wires) (s .bits) i) 0 ≡ false = rw e at (ne-eqb (c .before .before .fault-at .result) 0 (c .before .if1 .taken)) in
-    let r : told (c .refused .result) ≡ refused (record { number = c .before .before .fault-at .result; place = i }) = c .refused .ensures in
+    let r : verdictOf (c .refused .result) ≡ refused (record { number = c .before .before .fault-at .result; place = i }) = c .refused .ensures in
     r ∙ ap (λ (k : ℕ). refused (record { number = k; place = i })) e
     ∙ sym (c .before .before .before .before .loop .inv .1 ∙ stops (s .list .now) (s .wires) (s .bits) (s .n) i (omega arith) t)
 

@@ -5,7 +5,7 @@ use borrow.Author.Needs.{needs}
 use lib.ListN.{length}
 use Rattle.rules.specs.Limits.{width}
 use Rattle.rules.specs.Refusal.{refuse, wholeFault, faultsFrom, verdict}
-use Rattle.gate.specs.Told.{told}
+use Rattle.gate.specs.Verdicts.{verdictOf}
 use Rattle.gate.proofs.First.{ruled-some, ruled-none}
 use Rattle.gate.proofs.check_list.Statement.{statement}
 use Rattle.gate.proofs.check_list.Tie as tie
@@ -35,7 +35,7 @@ returns c =
     let l = a .list .now in
     let f = wholeFault (length l) (length l / width) (a .wires) (a .bits) (a .out) (a .terms) (a .steps) in
     let k : c .before .before .first-of .result ≡ f = c .before .before .first-of .ensures in
-    let r : told (c .refused .result) ≡ refuse (c .before .before .first-of .result) zero = c .refused .ensures in
+    let r : verdictOf (c .refused .result) ≡ refuse (c .before .before .first-of .result) zero = c .refused .ensures in
     r ∙ ap (λ (n : ℕ). refuse n zero) k
     ∙ sym (ruled-some f zero (faultsFrom l (a .wires) (a .bits) (length l / width) zero) (λ e. c .before .if1 .taken (k ∙ e)))
 

@@ -8,7 +8,7 @@ use lib.ListN.{length}
 use Rattle.rules.specs.Close.{Pairs, clearBoth}
 use Rattle.rows.specs.Rows.{rowsOf, pair}
 use Rattle.rows.proofs.Room.{row-count}
-use Rattle.rows.proofs.Turns.{clear-around}
+use Rattle.rows.proofs.Rounds.{clear-around}
 use Rattle.rows.proofs.clear_column.Statement.{statement}
 use Rattle.rows.proofs.clear_column.Tie as tie
 

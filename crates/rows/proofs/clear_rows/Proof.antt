@@ -12,7 +12,7 @@ use Rattle.rules.specs.Close.{clearBoth}
 use Rattle.parity.proofs.Tables.{Table, table-made, table-picks}
 use Rattle.rows.specs.Rows.{rowsOf, pair, otherHas}
 use Rattle.rows.proofs.Room.{row-count}
-use Rattle.rows.proofs.Turns.{pivot-stays, clear-next, clear-end, another}
+use Rattle.rows.proofs.Rounds.{pivot-stays, clear-next, clear-end, another}
 use Rattle.rows.proofs.clear_rows.Statement.{statement}
 use Rattle.rows.proofs.clear_rows.Tie as tie
 

@@ -8,7 +8,7 @@ use lib.ListN.{length, getD, drop}
 use Rattle.rules.specs.Close.{eqRows}
 use Rattle.rows.specs.Rows.{rowsOf}
 use Rattle.rows.proofs.Room.{row-count}
-use Rattle.rows.proofs.Turns.{equal-end, equal-next, equal-stop}
+use Rattle.rows.proofs.Rounds.{equal-end, equal-next, equal-stop}
 use Rattle.rows.proofs.equal.Statement.{statement}
 use Rattle.rows.proofs.equal.Tie as tie
 

@@ -5,7 +5,7 @@ use native.Mathlib.Omega.{arith}
 use borrow.Author.Needs.{needs}
 use lib.ListN.{length}
 use Rattle.rules.specs.Close.{firstWith}
-use Rattle.rows.specs.Rows.{rowsOf, told}
+use Rattle.rows.specs.Rows.{rowsOf, foundOf}
 use Rattle.rows.proofs.Room.{row-count}
 use Rattle.rows.proofs.Search.{first-end, first-miss, first-hit}
 use Rattle.rows.proofs.find.Statement.{statement}
@@ -37,11 +37,11 @@ loop-again : tie.Need-loop-again Inv-loop μ-loop
 loop-again c = (c .before .before .before .before) .loop .inv ∙ first-miss _ _ _ _ (omega (arith, row-count ((c .before .before .before .before .before .before) .args .m .now))) (cc)
 
 returns : tie.Need-returns Inv-loop μ-loop
-unfolding told
+unfolding foundOf
 returns c = sym (c .before .loop .inv ∙ first-end _ _ _ _ (omega (arith, row-count ((c .before .before .before) .args .m .now))))
 
 returns-2 : tie.Need-returns-2 Inv-loop μ-loop
-unfolding told
+unfolding foundOf
 returns-2 c = sym ((c .before .before .before .before) .loop .inv ∙ first-hit _ _ _ _ (omega (arith, row-count ((c .before .before .before .before .before .before) .args .m .now))) (cc))
 
 pub find-spec : {M : Type 1} → statement M

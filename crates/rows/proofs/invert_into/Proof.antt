@@ -9,8 +9,8 @@ use Rattle.rules.specs.Close.{swap, firstWith, units, invertFrom, inverse}
 use Rattle.rules.proofs.Closing.{first-is}
 use Rattle.rows.specs.Rows.{rowsOf, pair, given}
 use Rattle.rows.proofs.Room.{row-count}
-use Rattle.rows.proofs.Search.{told-at, told-nothing}
-use Rattle.rows.proofs.Turns.{invert-start, invert-end, invert-stop, invert-next}
+use Rattle.rows.proofs.Search.{found-at, found-none}
+use Rattle.rows.proofs.Rounds.{invert-start, invert-end, invert-stop, invert-next}
 use Rattle.rows.proofs.invert_into.Statement.{statement}
 use Rattle.rows.proofs.invert_into.Tie as tie
 
@@ -35,7 +35,7 @@ more c =
 -- the pivot, where there is one, is a row
 found : (c : tie.After-pivot Inv-loop μ-loop)
     → let l = (c .before .before .before .before .before) .loop in let n = length (rowsOf ((c .before .before .before .before .before .before .before .before .before .before .before .before) .args .a .now)) in firstWith (l .column) (n - l .column) (l .column) (rowsOf (l .a)) ≡ some (c .pivot .given .0 .0)
-found c = rw (sym (more (c .before .before .before .before) .1)) (told-at _ _ ((c .before .before) .find .ensures) _ (c .pivot .given .1))
+found c = rw (sym (more (c .before .before .before .before) .1)) (found-at _ _ ((c .before .before) .find .ensures) _ (c .pivot .given .1))
 
 within : (c : tie.After-pivot Inv-loop μ-loop) → c .pivot .given .0 .0 < length (rowsOf ((c .before .before .before .before .before .before .before .before .before .before .before .before) .args .a .now))
 within c = let l = (c .before .before .before .before .before) .loop in omega (arith, first-is (l .column) _ (l .column) (rowsOf (l .a)) _ (found c) .1, more (c .before .before .before .before) .0)
@@ -72,7 +72,7 @@ unfolding given
 returns c =
     let l = (c .before .before .before .before .before) .loop in
     let h = more (c .before .before .before .before) in
-    sym (l .inv .3 ∙ invert-stop _ _ _ _ (h .0) (rw (sym (h .1)) (told-nothing _ _ ((c .before .before) .find .ensures) (c .enum-told .given .1))))
+    sym (l .inv .3 ∙ invert-stop _ _ _ _ (h .0) (rw (sym (h .1)) (found-none _ _ ((c .before .before) .find .ensures) (c .enum-told .given .1))))
 
 swap-requires : tie.Need-swap-requires Inv-loop μ-loop
 swap-requires c κs = let h = more (c .before .before .before .before .before .before) in (omega arith, omega (arith, within (c .before .before)))

@@ -9,7 +9,7 @@ use Rattle.rules.specs.Close.{times}
 use Rattle.rows.specs.Rows.{rowsOf}
 use Rattle.rows.proofs.Room.{row-count}
 use Rattle.rows.proofs.Sums.{product-at}
-use Rattle.rows.proofs.Turns.{fill-next, fill-end}
+use Rattle.rows.proofs.Rounds.{fill-next, fill-end}
 use Rattle.rows.proofs.products.Statement.{statement}
 use Rattle.rows.proofs.products.Tie as tie
 

@@ -9,7 +9,7 @@ use Rattle.rules.specs.Close.{units}
 use Rattle.rules.proofs.Closing.{at-units, length-units}
 use Rattle.rows.specs.Rows.{rowsOf}
 use Rattle.rows.proofs.Room.{row-count}
-use Rattle.rows.proofs.Turns.{fill-next, fill-end}
+use Rattle.rows.proofs.Rounds.{fill-next, fill-end}
 use Rattle.rows.proofs.set_units.Statement.{statement}
 use Rattle.rows.proofs.set_units.Tie as tie
 

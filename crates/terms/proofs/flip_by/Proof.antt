@@ -8,7 +8,7 @@ use Rattle.rules.proofs.Chain.{flipped}
 use Rattle.parity.specs.View.{val}
 use Rattle.parity.proofs.Tables.{Table, table-made, table-picks}
 use Rattle.terms.specs.Terms.{termsOf}
-use Rattle.terms.proofs.Crossing.{passed, cross-mask, cross-none, cross-length, cross-turn, cross-front}
+use Rattle.terms.proofs.Crossing.{passed, cross-mask, cross-none, cross-length, cross-round, cross-front}
 use Rattle.terms.proofs.flip_by.Statement.{statement}
 use Rattle.terms.proofs.flip_by.Tie as tie
 
@@ -66,7 +66,7 @@ loop-again c =
     let l = c .before .before .before .before .before .before .before .before .before .before .before .loop in (
       omega arith,
       c .before .before .put .kept .0 ∙ l .inv .1,
-      λ m made. c .before .before .put .ensures .terms ∙ cross-turn m _ _ _ _ _ _ (l .inv .2 m made) (omega arith) (c .before .before .before .before .before .before .before .before .get .ensures) (crosses (c .before .before .before .before) m made),
+      λ m made. c .before .before .put .ensures .terms ∙ cross-round m _ _ _ _ _ _ (l .inv .2 m made) (omega arith) (c .before .before .before .before .before .before .before .before .get .ensures) (crosses (c .before .before .before .before) m made),
     )
 
 same-length : tie.Need-same-length Inv-loop μ-loop

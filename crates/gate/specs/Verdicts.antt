@@ -3,6 +3,6 @@ use Rattle.rules.specs.Refusal as Paper
 use Rattle.gate.specs.declared.Verdict.{Verdict}
 use Rattle.gate.specs.declared.Verdict.the-variants.{Accepted, Refused}
 
-abbrev pub told : Verdict → Paper.Verdict
-told Accepted = Paper.accepted
-told (Refused r) = Paper.refused (record { number = r .number; place = r .place })
+abbrev pub verdictOf : Verdict → Paper.Verdict
+verdictOf Accepted = Paper.accepted
+verdictOf (Refused r) = Paper.refused (record { number = r .number; place = r .place })

@@ -1,4 +1,4 @@
--- One turn of each loop, over plain lists.
+-- One round of each loop, over plain lists.
 use mathlib.Core.Path.{_≡_, refl, sym, ap, ap₂, _∙_}
 use mathlib.Core.Logic.{_⊎_, inl, inr}
 use mathlib.Core.Bool.{Bool, true, false, cond}
