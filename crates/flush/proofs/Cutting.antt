@@ -1,20 +1,20 @@
--- The parts of the rooms that a block needs hold the same block, and come back as 0; and what is known of a run's block.
+-- The parts of the rooms that a block needs hold the same block; and what is known of a run's block.
 use mathlib.Core.Path.{_≡_, refl, sym, ap, ap₂, _∙_, subst}
 use mathlib.Core.List.{List, [], _∷_, _++_, map}
-use Prim.Native.Nat.{ℕ, zero, suc, _+_, _*_, _^_, _≤_, _<_}
+use Prim.Native.Nat.{ℕ, zero, suc, _+_, _*_, _/_, _^_, _≤_, _<_}
 use native.Mathlib.Nat.{le-refl}
 use native.Mathlib.Omega.{arith}
 use lib.IntN.{ℤ}
-use lib.ListN.{length, getD, take, drop, replicate, length-replicate}
+use lib.ListN.{length, getD, take}
 use lib.Seq.{getD-take, take-take, length-take-le}
-use Rattle.rules.specs.Limits.{termWidth, stepWidth}
+use Rattle.rules.specs.Limits.{width, termWidth, stepWidth}
 use Rattle.rules.specs.Gate.{Gate}
 use Rattle.rules.specs.Numbers.{gatesOf}
 use Rattle.rules.specs.Meaning.{op}
 use Rattle.rules.specs.Counts.{isTwo, twos}
 use Rattle.rules.specs.Fold.{Row, Term, empty}
-use Rattle.rules.specs.Budget.{budgetOf}
-use Rattle.rules.specs.Synth.{blockOf}
+use Rattle.rules.specs.Budget.{Budget, budgetOf}
+use Rattle.rules.specs.Synth.{blockOf, resynthesis}
 use Rattle.rules.proofs.Bits.{split, same}
 use Rattle.rules.proofs.Bounds.{RowsBelow, TermsBelow, InBounds, bounds-fold}
 use Rattle.rules.proofs.Reading.{gates-length}
@@ -29,8 +29,12 @@ use Rattle.block.specs.View.{rowsFrom, rowAt, rowsAt, termsAt, blockAt}
 use Rattle.block.proofs.Rowing.{row-eq, rows-length, rows-ext}
 use Rattle.block.proofs.Parts.{row-take}
 use Rattle.block.proofs.Using.{holds-same}
+use Rattle.budget.specs.declared.Pushed.{Pushed}
+use Rattle.budget.specs.View.{view}
 use Rattle.walk.specs.Stack.{nodeWidth}
-use Rattle.flush.specs.Choice.{Scratch, scratch, cleared, Fitted, Lent, Flushable}
+use Rattle.synth.specs.Resynthesis.{Rooms, Synthesizes}
+use Rattle.flush.specs.Choice.{Writes, Fitted, Lent, Flushable}
+use Rattle.flush.proofs.Keeping.{writes}
 
 -- ---- the block
 
@@ -67,20 +71,28 @@ unfolding twos
 two-le [] = le-refl 0
 two-le (g ∷ gs) = let h = two-le gs in split (isTwo (g .code)) (λ e. rw e (omega arith)) (λ e. rw e (omega arith))
 
-pub ready : (run place : List ℤ) (b : State.Block) (names rows : List ℕ) (s : Scratch) → Fitted run place b names rows s → Ready place (budgetOf (gatesOf run))
-ready run place b names rows s f = record {
-  two = omega arith;
-  all = omega arith;
-  room = omega (arith, gates-length run, f .fits);
-  few = omega (arith, two-le (gatesOf run), f .many);
-}
+-- the budget that the run's length and a count of its CNOT and CZ make
+abbrev pub ceilings : List ℤ → ℕ → Budget
+ceilings run t = record { two = 0; all = 0; maxTwo = t; maxAll = length run / width }
+
+ceilings-are : (run : List ℤ) (t : ℕ) → t ≡ twos (gatesOf run) → ceilings run t ≡ budgetOf (gatesOf run)
+ceilings-are run t e = rw (e, gates-length run)
+
+module _ {run place : List ℤ} {b : State.Block} {names rows room nodes held right steps : List ℕ} (f : Fitted run place b names rows room nodes held right steps)
+    {t : ℕ} (e : t ≡ twos (gatesOf run)) where
+  -- what the engine asks
+  pub asked : Rooms b names rows room nodes held right steps (length run / width) × Ready place (ceilings run t)
+  asked = (
+    rw (← gates-length run) (f .rooms),
+    record { two = omega arith; all = omega arith; room = omega (arith, f .fits); few = omega (arith, two-le (gatesOf run), f .many) },
+  )
+
+  -- what it then has made
+  pub attempted : {after : List ℤ} (p : Pushed) → Synthesizes (blockAt b names rows room) place (ceilings run t) after (view (p .budget)) (p .within)
+      → Writes resynthesis (gatesOf run) after p
+  attempted {after} p h = writes (gatesOf run) place after p (rw (← f .same, ← ceilings-are run t e) h)
 
 -- ---- the parts that are lent
-
--- a part comes back as 0
-pub part-cleared : (k : ℕ) (xs part : List ℕ) → k ≤ length xs → part ≡ replicate (length (take k xs)) 0 → part ++ drop k xs ≡ cleared k xs
-part-cleared k xs part l e =
-    ap₂ (λ (a b : List ℕ). a ++ b) (e ∙ ap (λ (n : ℕ). replicate n 0) (length-take-le k xs l)) (ap (λ (n : ℕ). drop n xs) (sym (length-replicate k 0)))
 
 module _ (run place : List ℤ) (b : State.Block) (table names rows room nodes held right steps : List ℕ)
     (f : Flushable run b table names rows room) (l : Lent run place nodes held right steps) where
@@ -107,8 +119,8 @@ module _ (run place : List ℤ) (b : State.Block) (table names rows room nodes h
         steps-in = l .long;
       }
 
-  pub fitted : Fitted run place b (take (b .wires) names) (take (2 * b .wires) rows)
-      (scratch (take (termWidth * b .terms) room) (take (nodeWidth * (b .wires + 1)) nodes) (take (2 * b .wires) held) (take (2 * b .wires) right) (take (stepWidth * (length (gatesOf run) + 1)) steps))
+  pub fitted : Fitted run place b (take (b .wires) names) (take (2 * b .wires) rows) (take (termWidth * b .terms) room) (take (nodeWidth * (b .wires + 1)) nodes)
+      (take (2 * b .wires) held) (take (2 * b .wires) right) (take (stepWidth * (length (gatesOf run) + 1)) steps)
   fitted =
       let n : ℕ = b .wires in
       let j = f .holds .rows-are .joins in
@@ -116,7 +128,6 @@ module _ (run place : List ℤ) (b : State.Block) (table names rows room nodes h
       let t : b .terms ≤ length (termsOf room) = f .holds .terms-are .few in
       let size : length (take n names) ≡ n = length-take-le n names (enough .names-in) in
       record {
-        exact = f .exact;
         many = l .many;
         fits = l .fits;
         same = block-cut b names rows room t ∙ same;

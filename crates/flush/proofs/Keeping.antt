@@ -1,16 +1,15 @@
--- The keep test decides as document 01's rule does, and the place then holds the choice, with 0 behind it.
-use mathlib.Core.Path.{_≡_, refl, sym, ap, ap₂, _∙_, subst}
+-- The keep test decides as document 01's rule does, and the place then begins with the choice.
+use mathlib.Core.Path.{_≡_, refl, sym, ap, _∙_}
 use mathlib.Core.Logic.{_⊎_, inl, inr}
 use mathlib.Core.Bool.{true, false, _&&_, false≢true}
-use mathlib.Core.List.{List, [], _∷_, _++_, append-nil}
+use mathlib.Core.List.{List, [], _∷_, _++_}
 use mathlib.Core.Option.{Option, none, some}
-use Prim.Native.Nat.{ℕ, zero, _+_, _-_, _*_, _≤_, _<_}
+use Prim.Native.Nat.{ℕ, _+_, _*_, _≤_, _<_}
 use native.Mathlib.Omega.{arith}
-use lib.IntN.{ℤ, pos}
-use lib.ListN.{length, getD, set, take, drop, replicate, length-drop, drop-of-length-le}
 use native.Mathlib.Numerals.{add-one}
-use lib.Seq.{take-all, take-at, take-suc, take-suc-set, length-take-le}
-use borrow.Rule.Slice.PartMut.{putMid}
+use lib.IntN.{ℤ}
+use lib.ListN.{length, getD, set, take}
+use lib.Seq.{take-all, take-suc, take-suc-set}
 use Rattle.rules.specs.Limits.{width}
 use Rattle.rules.specs.Gate.{Gate}
 use Rattle.rules.specs.Numbers.{gatesOf, numbersOf}
@@ -21,10 +20,11 @@ use Rattle.rules.specs.Scan.{Writer, chosen, replaces}
 use Rattle.rules.proofs.Bits.{split, and-left, and-right}
 use Rattle.rules.proofs.Passing.{cheaper-is}
 use Rattle.rules.proofs.Reading.{length-numbers}
-use Rattle.emit.specs.Emitted.{Holds, Passes, dear, long}
+use Rattle.emit.specs.Emitted.{Holds, Passes, dear, long, Emits}
 use Rattle.budget.specs.declared.Pushed.{Pushed}
 use Rattle.budget.specs.View.{view}
-use Rattle.flush.specs.Choice.{keeps, Tried, Exact, placeAfter, Placed}
+use Rattle.synth.specs.Resynthesis.{Synthesizes}
+use Rattle.flush.specs.Choice.{keeps, Made, Writes, Exact, Settles}
 
 -- what passes a ceiling of the old gates is not cheaper than they
 pub passes-not-cheaper : (new old : List Gate) → Passes (budgetOf old) new → cheaper new old ≡ false
@@ -53,101 +53,67 @@ chosen-old : (write : Writer) (gs : List Gate) → replaces write gs ≡ false �
 unfolding chosen
 chosen-old write gs e = rw e
 
+-- ---- what is settled, whatever the writer is
+
+module _ (write : Writer) (run place : List ℤ) (p : Pushed) (t : Writes write (gatesOf run) place p) (x : Exact run) where
+  abbrev old : List Gate
+  old = gatesOf run
+
+  -- kept: the new writing is there, and is cheaper
+  pub kept : (p .within && keeps (view (p .budget))) ≡ true → Settles write run place (record { gates = p .budget .all; replaced = true })
+  unfolding replaces
+  kept w =
+      let b : Budget = view (p .budget) in
+      let m : Made (write old) old place b = t .made (and-left (p .within) (keeps b) w) in
+      let cheap : cheaper (write old) old ≡ true = sym (keeps-cheaper place b (write old) old (m .holds) (m .maxTwo) (m .maxAll)) ∙ and-right (p .within) (keeps b) w in
+      let new : chosen write old ≡ write old = chosen-new write old cheap in
+      record {
+        text = ap (λ (n : ℕ). take (width * n) place) (m .holds .all) ∙ m .holds .text ∙ ap numbersOf (sym new);
+        gates = m .holds .all ∙ ap length (sym new);
+        replaced = sym cheap;
+      }
+
+  -- not kept: the new writing is not cheaper, and the run is copied
+  pub copied : (p .within && keeps (view (p .budget))) ≡ false → (place′ : List ℤ) (n : ℕ) → place′ ≡ run → n ≡ length old
+      → Settles write run place′ (record { gates = n; replaced = false })
+  unfolding replaces
+  copied w place′ n e q =
+      let b : Budget = view (p .budget) in
+      let dear-is : cheaper (write old) old ≡ false =
+      split (p .within)
+      (λ f. let m : Made (write old) old place b = t .made f in sym (keeps-cheaper place b (write old) old (m .holds) (m .maxTwo) (m .maxAll)) ∙ (rw f at w))
+      (λ f. t .stopped f) in
+      let same : chosen write old ≡ old = chosen-old write old dear-is in
+      let size : length run ≡ width * length old = ap length (sym x) ∙ length-numbers old in
+      record {
+        text = ap (take (width * n)) e ∙ take-all (width * n) run (omega arith) ∙ sym x ∙ ap numbersOf (sym same);
+        gates = q ∙ ap length (sym same);
+        replaced = sym dear-is;
+      }
+
+-- ---- today's writer
+
 -- nothing is written, nothing is counted
-pub holds-none : (out : List ℤ) (old : List Gate) → Holds out (budgetOf old) []
+holds-none : (out : List ℤ) (old : List Gate) → Holds out (budgetOf old) []
 unfolding numbersOf twos
 holds-none out old = record { text = refl; two = refl; all = refl }
 
--- the numbers from the place a on are lent, and come back as 0
-pub tail-cleared : (a : ℕ) (xs ys : List ℤ) → a ≤ length xs → ys ≡ replicate (length (take (length xs - a) (drop a xs))) (pos zero)
-    → putMid a (length xs - a) xs ys ≡ take a xs ++ replicate (length xs - a) (pos zero)
-tail-cleared a xs ys l e =
-    let k : ℕ = length xs - a in
-    let m : length (take k (drop a xs)) ≡ k = length-take-le k (drop a xs) (simp length-drop (omega arith)) in
-    let none : drop k (drop a xs) ≡ [] = drop-of-length-le (drop a xs) {i = k} (simp length-drop (omega arith)) in
-    ap (λ (zs : List ℤ). take a xs ++ zs) (ap₂ (λ (p q : List ℤ). p ++ q) (e ∙ ap (λ (n : ℕ). replicate n (pos zero)) m) none ∙ append-nil (replicate k (pos zero)))
+-- gates emitted within the run's own counts are what a writer says, if it says them
+pub written : (write : Writer) (gs new : List Gate) (before after : List ℤ) (p : Pushed) → write gs ≡ new
+    → Emits new before (budgetOf gs) after (view (p .budget)) (p .within) → Writes write gs after p
+written write gs new before after p e m = record {
+  made = λ w. record { holds = rw e (m .made w [] (holds-none before gs)); maxTwo = m .maxTwo; maxAll = m .maxAll };
+  stopped = λ w. rw e (passes-not-cheaper new gs (m .spent w [] (holds-none before gs)));
+}
 
--- ---- what is settled
-
-module _ (run before after : List ℤ) (p : Pushed) (t : Tried run before after p) (x : Exact run) where
-  abbrev pub old : List Gate
-  old = gatesOf run
-
-  abbrev new : List Gate
-  new = chosen resynthesis old
-
-  size : length run ≡ width * length old
-  size = ap length (sym x) ∙ length-numbers old
-
-  -- kept: the resynthesis is there, and is cheaper
-  module _ (w : (p .within && keeps (view (p .budget))) ≡ true) where
-    kept : (o : Option (List Gate)) → synth (blockOf old) ≡ o → Holds after (view (p .budget)) (orElse o old) × (cheaper (orElse o old) old ≡ true)
-    kept none e = absurd (false≢true (sym (t .lost e) ∙ and-left (p .within) (keeps (view (p .budget))) w))
-    kept (some gs) e =
-        let m = t .emits gs e in
-        let h = m .made (and-left (p .within) (keeps (view (p .budget))) w) [] (holds-none before old) in
-        (h, sym (keeps-cheaper after (view (p .budget)) gs old h (m .maxTwo) (m .maxAll)) ∙ and-right (p .within) (keeps (view (p .budget))) w)
-
-    cheap : replaces resynthesis old ≡ true
-    unfolding replaces resynthesis
-    cheap = kept (synth (blockOf old)) refl .1
-
-    there : Holds after (view (p .budget)) new
-    unfolding resynthesis
-    there = subst (Holds after (view (p .budget))) (sym (chosen-new resynthesis old cheap)) (kept (synth (blockOf old)) refl .0)
-
-    few : length new ≤ length old
-    unfolding replaces
-    few = rw (chosen-new resynthesis old cheap) (cheaper-is (resynthesis old) old cheap .0)
-
-    -- no more gates than the run has
-    pub kept-few : width * p .budget .all ≤ length run
-    kept-few = omega (arith, size, there .all, few)
-
-    -- what is behind them is cleared
-    pub placed-kept : (place′ : List ℤ) → length after ≡ length run → place′ ≡ take (width * p .budget .all) after ++ replicate (length run - width * p .budget .all) (pos zero)
-        → Placed run place′ (record { gates = p .budget .all; replaced = true })
-    unfolding placeAfter
-    placed-kept place′ l e =
-        let n : ℕ = width * p .budget .all in
-        let k : length run - n ≡ width * (length old - length new) = omega (arith, size, there .all) in
-        let text : take n after ≡ numbersOf new = ap (λ (m : ℕ). take (width * m) after) (there .all) ∙ there .text in
-        record {
-          settles = record {
-            text = ap (take n) e ∙ take-at (take n after) (replicate (length run - n) (pos zero)) n (length-take-le n after (omega (arith, kept-few))) ∙ text;
-            gates = there .all;
-            replaced = sym cheap;
-          };
-          place = e ∙ ap₂ (λ (a b : List ℤ). a ++ b) text (ap (λ (m : ℕ). replicate m (pos zero)) k);
-        }
-
-  -- not kept: the resynthesis is not cheaper
-  module _ (w : (p .within && keeps (view (p .budget))) ≡ false) where
-    lost : (o : Option (List Gate)) → synth (blockOf old) ≡ o → cheaper (orElse o old) old ≡ false
-    lost none e = self-not-cheaper old
-    lost (some gs) e =
-        let m = t .emits gs e in
-        split (p .within)
-        (λ f. sym (keeps-cheaper after (view (p .budget)) gs old (m .made f [] (holds-none before old)) (m .maxTwo) (m .maxAll)) ∙ (rw f at w))
-        (λ f. passes-not-cheaper gs old (m .spent f [] (holds-none before old)))
-
-    dear-is : replaces resynthesis old ≡ false
-    unfolding replaces resynthesis
-    dear-is = lost (synth (blockOf old)) refl
-
-    pub placed-copied : (place′ : List ℤ) (n : ℕ) → place′ ≡ run → n ≡ length old → Placed run place′ (record { gates = n; replaced = false })
-    unfolding placeAfter
-    placed-copied place′ n e q =
-        let c : new ≡ old = chosen-old resynthesis old dear-is in
-        let z : width * (length old - length new) ≡ 0 = omega (arith, ap length c) in
-        record {
-          settles = record {
-            text = ap (take (width * n)) e ∙ take-all (width * n) run (omega (arith, size)) ∙ sym x ∙ ap numbersOf (sym c);
-            gates = q ∙ ap length (sym c);
-            replaced = sym dear-is;
-          };
-          place = e ∙ sym x ∙ ap numbersOf (sym c) ∙ sym (ap (λ (m : ℕ). numbersOf new ++ replicate m (pos zero)) z ∙ append-nil (numbersOf new));
-        }
+-- the resynthesis; where a block had none the run would stand for it
+pub writes : (gs : List Gate) (before after : List ℤ) (p : Pushed) → Synthesizes (blockOf gs) before (budgetOf gs) after (view (p .budget)) (p .within) → Writes resynthesis gs after p
+unfolding resynthesis
+writes gs before after p t = go (synth (blockOf gs)) refl
+  where
+    go : (o : Option (List Gate)) → synth (blockOf gs) ≡ o → Writes resynthesis gs after p
+    go none e = record { made = λ w. absurd (false≢true (sym (t .lost e) ∙ w)); stopped = λ _. rw e (self-not-cheaper gs) }
+    go (some new) e = written resynthesis gs new before after p (ap (λ o. orElse o gs) e) (t .emits new e)
 
 -- ---- a copy, number by number
 

@@ -8,8 +8,11 @@ use rules::TERM_WIDTH;
 use walk::NODE_WIDTH;
 ghost use mathlib.Core.Path.{_≡_};
 ghost use lib.ListN.{length};
+ghost use Rattle.rules.specs.Numbers.{gatesOf};
+ghost use Rattle.rules.specs.Synth.{resynthesis};
+ghost use Rattle.rules.specs.Scan.{Writer};
 ghost use Rattle.budget.specs.View.{view};
-ghost use Rattle.flush.specs.Choice.{keeps, Tried, Attempted, Exact, Placed, scratch, Fitted, Chooses, Lent, Flushable, Flushes};
+ghost use Rattle.flush.specs.Choice.{keeps, Writes, Exact, Settles, Fitted, Flushable, Lent, Flushes};
 
 // How many gates the place now has, and whether they are new.
 pub struct Flushed {
@@ -34,21 +37,16 @@ pub fn copy(run: &[i32], place: &mut [i32])
     }
 }
 
-// Keeps what was written at the place, and clears the rest of it; or copies the run there.
+// Keeps what was written at the place, or copies the run there: the choice, whatever the writer is.
 fn settle(run: &[i32], place: &mut [i32], p: Pushed) -> Flushed
     requires { ⌜ length (now place) ≡ length (now run) ⌝ }
-    requires { ⌜ Exact (now run) ⌝ }
-    requires { ⌜ Attempted (now run) (now place) p ⌝ }
-    ensures { λ r. ⌜ Placed (now (run .entry)) (now (place .exit)) r ⌝ }
+    ensures { λ r. ⌜ ((write : Writer) → Exact (now (run .entry)) → Writes write (gatesOf (now (run .entry))) (now (place .entry)) p → Settles write (now (run .entry)) (now (place .exit)) r) ⌝ }
 {
     let spent = p.budget;
-    let gates = spent.all;
     let replaced = p.within & cheaper(spent);
     if replaced {
-        let from = GATE_WIDTH * gates;
-        clear::signed(&mut place[from..]);
         Flushed {
-            gates,
+            gates: spent.all,
             replaced: true,
         }
     } else {
@@ -60,7 +58,7 @@ fn settle(run: &[i32], place: &mut [i32], p: Pushed) -> Flushed
     }
 }
 
-// The block written again at its place, within the run's own counts.
+// The block written again at its place, within the run's own counts. No other function knows by what.
 fn attempt(
     run: &[i32],
     place: &mut [i32],
@@ -73,8 +71,8 @@ fn attempt(
     right: &mut [u64],
     steps: &mut [u32],
 ) -> Pushed
-    requires { ⌜ Fitted (now run) (now place) block (now names) (now rows) (scratch (now room) (now nodes) (now held) (now right) (now steps)) ⌝ }
-    ensures { λ r. ⌜ Tried (now (run .entry)) (now (place .entry)) (now (place .exit)) r ⌝ }
+    requires { ⌜ Fitted (now run) (now place) block (now names) (now rows) (now room) (now nodes) (now held) (now right) (now steps) ⌝ }
+    ensures { λ r. ⌜ Writes resynthesis (gatesOf (now (run .entry))) (now (place .exit)) r ⌝ }
 {
     let b = Budget {
         two: 0,
@@ -96,45 +94,8 @@ fn attempt(
     )
 }
 
-// The block written again and settled, in rooms that are no larger than it needs; what that leaves in them is cleared.
-fn choose(
-    run: &[i32],
-    place: &mut [i32],
-    block: Block,
-    names: &[u32],
-    rows: &[u64],
-    room: &mut [u64],
-    nodes: &mut [u64],
-    held: &mut [u64],
-    right: &mut [u64],
-    steps: &mut [u32],
-) -> Flushed
-    requires { ⌜ Fitted (now run) (now place) block (now names) (now rows) (scratch (now room) (now nodes) (now held) (now right) (now steps)) ⌝ }
-    ensures { λ r. ⌜ Chooses (now (run .entry)) (now (place .exit)) r (scratch (now (room .entry)) (now (nodes .entry)) (now (held .entry)) (now (right .entry)) (now (steps .entry))) (scratch (now (room .exit)) (now (nodes .exit)) (now (held .exit)) (now (right .exit)) (now (steps .exit))) ⌝ }
-{
-    let p = attempt(
-        run,
-        &mut *place,
-        block,
-        names,
-        rows,
-        &mut *room,
-        &mut *nodes,
-        &mut *held,
-        &mut *right,
-        &mut *steps,
-    );
-    let r = settle(run, place, p);
-    clear::words(room);
-    clear::words(nodes);
-    clear::words(held);
-    clear::words(right);
-    clear::halves(steps);
-    r
-}
-
 // A closed block: `run` is its gates, `place` its own place in the output, as long as the run. Its wires leave the join table. Of each work room only
-// the part that the block needs is lent on, so that clearing costs the block's size and the rest is known to be untouched.
+// the part that the block needs is lent on.
 pub fn flush(
     run: &[i32],
     place: &mut [i32],
@@ -150,7 +111,7 @@ pub fn flush(
 ) -> Flushed
     requires { ⌜ Flushable (now run) block (now table) (now names) (now rows) (now room) ⌝ }
     requires { ⌜ Lent (now run) (now place) (now nodes) (now held) (now right) (now steps) ⌝ }
-    ensures { λ r. ⌜ Flushes (now (run .entry)) (now (place .exit)) (now (table .exit)) (now (names .entry)) r block (scratch (now (room .entry)) (now (nodes .entry)) (now (held .entry)) (now (right .entry)) (now (steps .entry))) (scratch (now (room .exit)) (now (nodes .exit)) (now (held .exit)) (now (right .exit)) (now (steps .exit))) ⌝ }
+    ensures { λ r. ⌜ Flushes resynthesis (now (run .entry)) (now (place .exit)) (now (table .exit)) (now (names .entry)) r ⌝ }
 {
     let wires = block.wires;
     let n = wires as usize;
@@ -158,9 +119,9 @@ pub fn flush(
     let stack = NODE_WIDTH * (n + 1);
     let terms = TERM_WIDTH * block.terms;
     let most = STEP_WIDTH * (run.len() / GATE_WIDTH + 1);
-    let r = choose(
+    let p = attempt(
         run,
-        place,
+        &mut *place,
         block,
         &names[..n],
         &rows[..matrix],
@@ -170,6 +131,7 @@ pub fn flush(
         &mut right[..matrix],
         &mut steps[..most],
     );
+    let r = settle(run, place, p);
     join::leave(table, names, wires);
     r
 }

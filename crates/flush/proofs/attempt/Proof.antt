@@ -1,21 +1,28 @@
--- `flush::attempt` meets its contract: the rooms hold the run's block, and the budget is the run's.
+-- `flush::attempt` meets its contract: the rooms hold the run's block, the budget is the run's, and what is written is the resynthesis.
 use mathlib.Core.Path.{_≡_}
 use borrow.Author.Needs.{needs}
 use Rattle.rules.specs.Numbers.{gatesOf}
 use Rattle.rules.specs.Counts.{twos}
-use Rattle.rules.proofs.Reading.{gates-length}
-use Rattle.flush.proofs.Cutting.{ready}
+use Rattle.flush.proofs.Cutting.{asked, attempted}
 use Rattle.flush.proofs.attempt.Statement.{statement}
 use Rattle.flush.proofs.attempt.Tie as tie
+
+-- the start, from where the engine is called
+abbrev begin : tie.After-synthesize-arg6 → tie.Start
+begin c = c .before .before .before .before .before .before .before .before .before .before .before .before .before .before
+
+-- the run's own count
+two : (c : tie.After-synthesize-arg6) → (c .before .before .before .before .before .before) .count-two .result ≡ twos (gatesOf (begin c .args .run .now))
+two c = (c .before .before .before .before .before .before) .count-two .ensures
+
+abbrev made : tie.After-place → tie.After-synthesize
+made c = c .before .before .before .before .before .before .before .before .before .before .before
 
 count-two-requires : tie.Need-count-two-requires
 count-two-requires c κs = search needs
 
 synthesize-requires : tie.Need-synthesize-requires
-synthesize-requires c κs =
-    let s = (c .before .before .before .before .before .before .before .before .before .before .before .before .before .before) in
-    let t : (c .before .before .before .before .before .before) .count-two .result ≡ twos (gatesOf (s .args .run .now)) = (c .before .before .before .before .before .before) .count-two .ensures in
-    rw (← gates-length (s .args .run .now), t) (s .pre .rooms, ready _ _ _ _ _ _ (s .pre))
+synthesize-requires c κs = asked (begin c .pre) (two c)
 
 same-length : tie.Need-same-length
 same-length c = search needs
@@ -36,10 +43,7 @@ same-length-6 : tie.Need-same-length-6
 same-length-6 c = search needs
 
 returns : tie.Need-returns
-returns c =
-    let s = (c .before .before .before .before .before .before .before .before .before .before .before .before .before .before .before .before .before .before .before .before .before .before .before .before .before .before) in
-    let t : (c .before .before .before .before .before .before .before .before .before .before .before .before .before .before .before .before .before .before) .count-two .result ≡ twos (gatesOf (s .args .run .now)) = (c .before .before .before .before .before .before .before .before .before .before .before .before .before .before .before .before .before .before) .count-two .ensures in
-    rw (← s .pre .same, ← t, gates-length (s .args .run .now)) ((c .before .before .before .before .before .before .before .before .before .before .before) .synthesize .ensures)
+returns c = let m = made c in attempted (begin (m .before) .pre) (two (m .before)) (m .synthesize .result) (m .synthesize .ensures)
 
 pub attempt-spec : {M : Type 1} → statement M
 attempt-spec =

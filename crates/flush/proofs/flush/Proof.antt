@@ -1,15 +1,26 @@
--- `flush::flush` meets its contract: chosen in the parts that the block needs, and the wires leave.
-use mathlib.Core.Path.{sym, ap, _∙_}
-use Prim.Native.Nat.{ℕ, _+_, _*_, _/_}
+-- `flush::flush` meets its contract: written again in the parts that the block needs, settled, and the wires leave.
+use mathlib.Core.Path.{sym, _∙_}
+use Prim.Native.Nat.{_+_, _*_, _/_}
 use native.Mathlib.Omega.{arith}
 use borrow.Author.Needs.{needs}
 use lib.ListN.{length}
 use lib.Seq.{length-take-le}
+use Rattle.rules.specs.Synth.{resynthesis}
 use Rattle.rules.proofs.Reading.{gates-length}
-use Rattle.flush.specs.Choice.{cleared}
-use Rattle.flush.proofs.Cutting.{part-cleared, Enough, enough, fitted}
+use Rattle.flush.proofs.Cutting.{Enough, enough, fitted}
 use Rattle.flush.proofs.flush.Statement.{statement}
 use Rattle.flush.proofs.flush.Tie as tie
+
+-- the start, from where the parts begin to be lent
+abbrev begin : tie.After-attempt-arg2 → tie.Start
+begin c = c .before .before .before .before .before .before .before .before .before .before .before
+
+abbrev lent : tie.After-attempt-arg8 → tie.Start
+lent c = begin (c .before .before .before .before .before .before)
+
+-- the moment behind the attempt
+abbrev tried : tie.After-settle-arg → tie.After-attempt
+tried c = c .before .before .before .before .before .before .before .before .before .before .before .before
 
 parts : (c : tie.Start) → let s = c .args in
     Enough (s .run .now) (s .place .now) (s .block) (s .table .now) (s .names .now) (s .rows .now) (s .room .now) (s .nodes .now) (s .held .now) (s .right .now) (s .steps .now) (c .pre .0) (c .pre .1)
@@ -36,47 +47,50 @@ add-most c = search needs
 mul-most : tie.Need-mul-most
 mul-most c = search needs
 
-slice-aggregate-choose : tie.Need-slice-aggregate-choose
-slice-aggregate-choose c = sym (length-take-le _ _ (parts (c .before .before .before .before .before .before .before .before .before .before .before) .names-in))
+slice-aggregate-attempt : tie.Need-slice-aggregate-attempt
+slice-aggregate-attempt c = sym (length-take-le _ _ (parts (begin c) .names-in))
 
-slice-aggregate-choose-2 : tie.Need-slice-aggregate-choose-2
-slice-aggregate-choose-2 c = sym (length-take-le _ _ (parts (c .before .before .before .before .before .before .before .before .before .before .before .before) .rows-in))
+slice-aggregate-attempt-2 : tie.Need-slice-aggregate-attempt-2
+slice-aggregate-attempt-2 c = sym (length-take-le _ _ (parts (begin (c .before)) .rows-in))
 
-slice-relend-prefix-choose : tie.Need-slice-relend-prefix-choose
-slice-relend-prefix-choose c = parts (c .before .before .before .before .before .before .before .before .before .before .before .before) .terms-in
+slice-relend-prefix-attempt : tie.Need-slice-relend-prefix-attempt
+slice-relend-prefix-attempt c = parts (begin (c .before)) .terms-in
 
-slice-aggregate-choose-3 : tie.Need-slice-aggregate-choose-3
-slice-aggregate-choose-3 c = sym (length-take-le _ _ (parts (c .before .before .before .before .before .before .before .before .before .before .before .before .before) .terms-in))
+slice-aggregate-attempt-3 : tie.Need-slice-aggregate-attempt-3
+slice-aggregate-attempt-3 c = sym (length-take-le _ _ (parts (begin (c .before .before)) .terms-in))
 
-slice-relend-prefix-choose-2 : tie.Need-slice-relend-prefix-choose-2
-slice-relend-prefix-choose-2 c = parts (c .before .before .before .before .before .before .before .before .before .before .before .before .before) .nodes-in
+slice-relend-prefix-attempt-2 : tie.Need-slice-relend-prefix-attempt-2
+slice-relend-prefix-attempt-2 c = parts (begin (c .before .before)) .nodes-in
 
-slice-aggregate-choose-4 : tie.Need-slice-aggregate-choose-4
-slice-aggregate-choose-4 c = sym (length-take-le _ _ (parts (c .before .before .before .before .before .before .before .before .before .before .before .before .before .before) .nodes-in))
+slice-aggregate-attempt-4 : tie.Need-slice-aggregate-attempt-4
+slice-aggregate-attempt-4 c = sym (length-take-le _ _ (parts (begin (c .before .before .before)) .nodes-in))
 
-slice-relend-prefix-choose-3 : tie.Need-slice-relend-prefix-choose-3
-slice-relend-prefix-choose-3 c = parts (c .before .before .before .before .before .before .before .before .before .before .before .before .before .before) .held-in
+slice-relend-prefix-attempt-3 : tie.Need-slice-relend-prefix-attempt-3
+slice-relend-prefix-attempt-3 c = parts (begin (c .before .before .before)) .held-in
 
-slice-aggregate-choose-5 : tie.Need-slice-aggregate-choose-5
-slice-aggregate-choose-5 c = sym (length-take-le _ _ (parts (c .before .before .before .before .before .before .before .before .before .before .before .before .before .before .before) .held-in))
+slice-aggregate-attempt-5 : tie.Need-slice-aggregate-attempt-5
+slice-aggregate-attempt-5 c = sym (length-take-le _ _ (parts (begin (c .before .before .before .before)) .held-in))
 
-slice-relend-prefix-choose-4 : tie.Need-slice-relend-prefix-choose-4
-slice-relend-prefix-choose-4 c = parts (c .before .before .before .before .before .before .before .before .before .before .before .before .before .before .before) .right-in
+slice-relend-prefix-attempt-4 : tie.Need-slice-relend-prefix-attempt-4
+slice-relend-prefix-attempt-4 c = parts (begin (c .before .before .before .before)) .right-in
 
-slice-aggregate-choose-6 : tie.Need-slice-aggregate-choose-6
-slice-aggregate-choose-6 c = sym (length-take-le _ _ (parts (c .before .before .before .before .before .before .before .before .before .before .before .before .before .before .before .before) .right-in))
+slice-aggregate-attempt-6 : tie.Need-slice-aggregate-attempt-6
+slice-aggregate-attempt-6 c = sym (length-take-le _ _ (parts (begin (c .before .before .before .before .before)) .right-in))
 
-slice-relend-prefix-choose-5 : tie.Need-slice-relend-prefix-choose-5
-slice-relend-prefix-choose-5 c = rw (← gates-length ((c .before .before .before .before .before .before .before .before .before .before .before .before .before .before .before .before) .args .run .now)) (parts (c .before .before .before .before .before .before .before .before .before .before .before .before .before .before .before .before) .steps-in)
+slice-relend-prefix-attempt-5 : tie.Need-slice-relend-prefix-attempt-5
+slice-relend-prefix-attempt-5 c = let s = begin (c .before .before .before .before .before) in rw (← gates-length (s .args .run .now)) (parts s .steps-in)
 
-slice-aggregate-choose-7 : tie.Need-slice-aggregate-choose-7
-slice-aggregate-choose-7 c = rw (← gates-length ((c .before .before .before .before .before .before .before .before .before .before .before .before .before .before .before .before .before) .args .run .now)) (sym (length-take-le _ _ (parts (c .before .before .before .before .before .before .before .before .before .before .before .before .before .before .before .before .before) .steps-in)))
+slice-aggregate-attempt-7 : tie.Need-slice-aggregate-attempt-7
+slice-aggregate-attempt-7 c = let s = lent c in rw (← gates-length (s .args .run .now)) (sym (length-take-le _ _ (parts s .steps-in)))
 
-choose-requires : tie.Need-choose-requires
-choose-requires c κs = let s = (c .before .before .before .before .before .before .before .before .before .before .before .before .before .before .before .before .before) in rw (← gates-length (s .args .run .now)) (fitted _ _ _ _ _ _ _ _ _ _ _ (s .pre .0) (s .pre .1))
+attempt-requires : tie.Need-attempt-requires
+attempt-requires c κs = let s = lent c in rw (← gates-length (s .args .run .now)) (fitted _ _ _ _ _ _ _ _ _ _ _ (s .pre .0) (s .pre .1))
+
+settle-requires : tie.Need-settle-requires
+settle-requires c κs = let t = tried c in t .attempt .kept .1 .0 ∙ lent (t .before) .pre .1 .fits
 
 leave-requires : tie.Need-leave-requires
-leave-requires c κs = (c .before .before .before .before .before .before .before .before .before .before .before .before .before .before .before .before .before .before .before .before .before .before .before .before .before .before .before .before .before .before) .pre .0 .holds .rows-are .joins
+leave-requires c κs = lent (tried (c .before .before .before) .before) .pre .0 .holds .rows-are .joins
 
 same-length : tie.Need-same-length
 same-length c = search needs
@@ -101,22 +115,9 @@ same-length-7 c = search needs
 
 returns : tie.Need-returns
 returns c =
-    let s = (c .before .before .before .before .before .before .before .before .before .before .before .before .before .before .before .before .before .before .before .before .before .before .before .before .before .before .before .before .before .before .before .before .before) in
-    let h = (c .before .before .before .before .before .before .before .before .before .before .before .before .before .before .before) .choose .ensures in
-    let e = parts s in
-    let run = s .args .run .now in
-    record {
-      settles = h .placed .settles;
-      leaves = (c .before .before) .leave .ensures;
-      place = h .placed .place;
-      clears = record {
-        terms = part-cleared _ _ _ (e .terms-in) (h .empties .terms);
-        nodes = part-cleared _ _ _ (e .nodes-in) (h .empties .nodes);
-        held = part-cleared _ _ _ (e .held-in) (h .empties .held);
-        right = part-cleared _ _ _ (e .right-in) (h .empties .right);
-        steps = part-cleared (2 * (length run / 5 + 1)) _ _ (rw (← gates-length run) (e .steps-in)) (h .empties .steps) ∙ ap (λ (n : ℕ). cleared (2 * (n + 1)) (s .args .steps .now)) (sym (gates-length run));
-      };
-    }
+    let d = c .before .before .before .before .before in
+    let t = tried (d .before) in
+    record { settles = d .settle .ensures resynthesis (lent (t .before) .pre .0 .exact) (t .attempt .ensures); leaves = (c .before .before) .leave .ensures }
 
 pub flush-spec : {M : Type 1} → statement M
 flush-spec =
@@ -129,19 +130,20 @@ flush-spec =
     mul-terms
     add-most
     mul-most
-    slice-aggregate-choose
-    slice-aggregate-choose-2
-    slice-relend-prefix-choose
-    slice-aggregate-choose-3
-    slice-relend-prefix-choose-2
-    slice-aggregate-choose-4
-    slice-relend-prefix-choose-3
-    slice-aggregate-choose-5
-    slice-relend-prefix-choose-4
-    slice-aggregate-choose-6
-    slice-relend-prefix-choose-5
-    slice-aggregate-choose-7
-    choose-requires
+    slice-aggregate-attempt
+    slice-aggregate-attempt-2
+    slice-relend-prefix-attempt
+    slice-aggregate-attempt-3
+    slice-relend-prefix-attempt-2
+    slice-aggregate-attempt-4
+    slice-relend-prefix-attempt-3
+    slice-aggregate-attempt-5
+    slice-relend-prefix-attempt-4
+    slice-aggregate-attempt-6
+    slice-relend-prefix-attempt-5
+    slice-aggregate-attempt-7
+    attempt-requires
+    settle-requires
     leave-requires
     same-length
     same-length-2
