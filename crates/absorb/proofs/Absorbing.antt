@@ -19,6 +19,7 @@ use Rattle.rules.specs.Bit.{_⊕_, bit, xor}
 use Rattle.rules.specs.Meaning.{Op, op, opaque, flip, phase, cnot, cz}
 use Rattle.rules.specs.Fold.{Row, Term, Block, addRow, addTerm, signed, entered, rowsBy, termsBy, absorb, join}
 use Rattle.rules.specs.Close.{addTo}
+use Rattle.rules.specs.Plan.{Plan}
 use Rattle.rules.specs.Scan.{roomy, takes}
 use Rattle.rules.proofs.Bits.{split, bit-xor, bit-unit, bit-zero, ⊕-false, and-left, and-right}
 use Rattle.parity.specs.View.{val}
@@ -155,14 +156,14 @@ module _ (rs : List Row) (b e r : State.Block) (names rows table′ names′ row
   }
 
 pub absorb-ready : {p : Block} {b : State.Block} {table names rows room : List ℕ} → Holds p b table names rows room
-    → (g : Gate) (qcap tcap : ℕ) → Wired g table → qcap ≤ maxColumns → b .terms + 3 ≤ length (termsOf room)
-    → takes qcap tcap (op (gateOf g)) p ≡ true → Absorbable b g table names rows room
+    → (g : Gate) (plan : Plan) → Wired g table → plan .qubits ≤ maxColumns → b .terms + 3 ≤ length (termsOf room)
+    → takes plan (op (gateOf g)) p ≡ true → Absorbable b g table names rows room
 unfolding takes
-absorb-ready {p} h g qcap tcap w l m t =
+absorb-ready {p} h g plan w l m t =
     let o : Op = op (gateOf g) in
-    let clear : not (opaque o) ≡ true = and-left (not (opaque o)) (leb (length (entered o (p .rows))) qcap && roomy tcap o p) t in
-    let rest = and-right (not (opaque o)) (leb (length (entered o (p .rows))) qcap && roomy tcap o p) t in
-    let fits : length (entered o (p .rows)) ≤ qcap = leb-true _ _ (and-left (leb (length (entered o (p .rows))) qcap) (roomy tcap o p) rest) in
+    let clear : not (opaque o) ≡ true = and-left (not (opaque o)) (leb (length (entered o (p .rows))) (plan .qubits) && roomy (plan .terms) o p) t in
+    let rest = and-right (not (opaque o)) (leb (length (entered o (p .rows))) (plan .qubits) && roomy (plan .terms) o p) t in
+    let fits : length (entered o (p .rows)) ≤ plan .qubits = leb-true _ _ (and-left (leb (length (entered o (p .rows))) (plan .qubits)) (roomy (plan .terms) o p) rest) in
     let code = op-some (g .code) (split (ltb (g .code) 1 || ltb 9 (g .code)) (λ e. absurd (true≢false (sym clear ∙ ap (λ u. not (opaque u)) (op-other g e)))) (λ e. e)) in
     record {
       sound = holds-sound h;

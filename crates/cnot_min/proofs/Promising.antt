@@ -11,10 +11,11 @@ use Rattle.rules.specs.Limits.{width}
 use Rattle.rules.specs.Gate.{Gate}
 use Rattle.rules.specs.Numbers.{gatesOf, numbersOf}
 use Rattle.rules.specs.Refusal as Refusals
-use Rattle.rules.specs.Synth.{resynthesis}
+use Rattle.rules.specs.Plan.{planOf}
 use Rattle.rules.specs.Scan.{Result}
 use Rattle.rules.specs.Promise.{Promised}
 use Rattle.rules.specs.Pass as Paper
+use Rattle.rules.specs.Pass.{writerOf}
 use Rattle.rules.proofs.Reading.{read-written, length-numbers}
 use Rattle.rules.proofs.Resynthesis.{promised}
 use Rattle.cnot_min.specs.Minimizing.{told, shown, Minimizes, Minimized}
@@ -82,8 +83,8 @@ module _ (l : List ℤ) (w b q t : ℕ) (out : List ℤ) (terms steps : List ℕ
           let same : c ≡ Paper.counts (gatesOf l) (Paper.pass q t (gatesOf l)) = done-is c (Paper.counts (gatesOf l) (Paper.pass q t (gatesOf l))) (sym f ∙ m .answer) in
           ap (λ (x : Paper.Counts). shown x out′) same ∙ ap (shown (Paper.counts (gatesOf l) (Paper.pass q t (gatesOf l)))) (m .out-is) ∙ shown-is l q t out
 
-      promised-of : (c : Paper.Counts) → told r ≡ Paper.done c → Promised resynthesis q t (gatesOf l) (shown c out′)
-      promised-of c f = subst (Promised resynthesis q t (gatesOf l)) (sym (whole c f)) (promised q t (gatesOf l))
+      promised-of : (c : Paper.Counts) → told r ≡ Paper.done c → let p = planOf q t in Promised (writerOf p) p (gatesOf l) (shown c out′)
+      promised-of c f = let p = planOf q t in subst (Promised (writerOf p) p (gatesOf l)) (sym (whole c f)) (promised q t (gatesOf l))
 
   pub refuses : (r : Refusals.Refusal) (a : Answer) → told a ≡ Paper.refusal r → Refusals.verdict l w b (length out) (length terms) (length steps) ≡ Refusals.refused r
       → Minimizes l w b q t out terms steps a out terms steps

@@ -1,20 +1,21 @@
 -- What the entry point promises, for every list, any numbers of wires and bits, any two caps and any three rooms.
 use mathlib.Core.Path.{_≡_}
 use mathlib.Core.List.{List, _++_}
-use Prim.Native.Nat.{ℕ, _-_, _*_}
+use Prim.Native.Nat.{ℕ, _-_, _*_, _≤_}
 use lib.IntN.{ℤ, pos}
 use lib.ListN.{length, take, replicate}
-use Rattle.rules.specs.Limits.{width, termWidth, stepWidth, termEntries, stepEntries}
+use Rattle.rules.specs.Limits.{width, maxColumns, termWidth, stepWidth, termEntries, stepEntries}
 use Rattle.rules.specs.Gate.{Gate}
 use Rattle.rules.specs.Numbers.{gatesOf, numbersOf}
 use Rattle.rules.specs.Refusal.{accepted, verdict}
 use Rattle.rules.specs.Stretch.{Stretchwise, AlikeGates}
 use Rattle.rules.specs.Counts.{Thrifty}
-use Rattle.rules.specs.Synth.{resynthesis}
-use Rattle.rules.specs.Scan.{Result}
+use Rattle.rules.specs.Plan.{Plan, planOf}
+use Rattle.rules.specs.Scan.{Writer, Result, passBy}
 use Rattle.rules.specs.Promise.{Exactly}
 use Rattle.rules.specs.Pass as Paper
-use Rattle.scan.specs.Scanning.{Sound, gatesIn}
+use Rattle.rules.specs.Pass.{writerOf}
+use Rattle.scan.specs.Scanning.{Checked, gatesIn}
 use Rattle.cnot_min.specs.declared.Counts.{Counts}
 use Rattle.cnot_min.specs.declared.Answer.{Answer}
 use Rattle.cnot_min.specs.declared.Answer.the-variants.{Refused, Done}
@@ -62,23 +63,24 @@ pub record Minimizes (l : List ℤ) (wires bits qcap tcap : ℕ) (out : List ℤ
   pub alike : (c : Paper.Counts) → told r ≡ Paper.done c → Stretchwise AlikeGates (shown c out′ .gates) (gatesOf l)
   -- each stretch is unchanged, or no more gates, no more CNOT and CZ, and fewer of one. Wrong: a dearer writing kept; a gate added
   pub thrifty : (c : Paper.Counts) → told r ≡ Paper.done c → Stretchwise Thrifty (shown c out′ .gates) (gatesOf l)
-  -- each block is replaced exactly when its resynthesis is cheaper, and the blocks closed and replaced are counted.
+  -- each gate outside a block is copied; each block is replaced exactly when its resynthesis is cheaper, else kept; and the blocks closed and replaced are counted.
   -- Wrong: a block that ties replaced; a cheaper writing left
-  pub exactly : (c : Paper.Counts) → told r ≡ Paper.done c → Exactly resynthesis qcap tcap (gatesOf l) (shown c out′)
+  pub exactly : (c : Paper.Counts) → told r ≡ Paper.done c → let p = planOf qcap tcap in Exactly (writerOf p) p (gatesOf l) (shown c out′)
 
 -- ---- an accepted list
 
 -- rooms of exactly the length that the list needs
-pub record Rewritable (l : List ℤ) (w : ℕ) (out : List ℤ) (terms steps : List ℕ) : Type 0 where
-  pub sound : Sound l w
+pub record Rewritable (p : Plan) (l : List ℤ) (w : ℕ) (out : List ℤ) (terms steps : List ℕ) : Type 0 where
+  pub capped : p .qubits ≤ maxColumns
+  pub checked : Checked l w
   pub out-fits : length out ≡ length l
   pub terms-fit : length terms ≡ termWidth * termEntries (gatesIn l)
   pub steps-fit : length steps ≡ stepWidth * stepEntries (gatesIn l)
 
 -- what they then hold: the result and 0, and 0
-pub record Rewrites (l : List ℤ) (qcap tcap : ℕ) (c : Counts) (out′ : List ℤ) (terms′ steps′ : List ℕ) : Type 0 where
-  pub counts : counted c ≡ Paper.counts (gatesOf l) (Paper.pass qcap tcap (gatesOf l))
-  pub out-is : out′ ≡ numbersOf (Paper.pass qcap tcap (gatesOf l) .gates) ++ replicate (width * (gatesIn l - length (Paper.pass qcap tcap (gatesOf l) .gates))) (pos 0)
+pub record Rewrites (write : Writer) (p : Plan) (l : List ℤ) (c : Counts) (out′ : List ℤ) (terms′ steps′ : List ℕ) : Type 0 where
+  pub counts : counted c ≡ Paper.counts (gatesOf l) (passBy write p (gatesOf l))
+  pub out-is : out′ ≡ numbersOf (passBy write p (gatesOf l) .gates) ++ replicate (width * (gatesIn l - length (passBy write p (gatesOf l) .gates))) (pos 0)
   pub terms-are : terms′ ≡ replicate (termWidth * termEntries (gatesIn l)) 0
   pub steps-are : steps′ ≡ replicate (stepWidth * stepEntries (gatesIn l)) 0
 

@@ -1,18 +1,21 @@
 // The entry point: a list checked, each of its blocks written again where that is cheaper, the rooms cleared, and eight counts.
 use gate::Refusal;
 use gate::Verdict;
+use plan::Plan;
 use rules::GATE_TERMS;
 use rules::GATE_WIDTH;
 use rules::MAX_COLUMNS;
+use rules::MAX_WIRES;
 use rules::STEP_WIDTH;
 use rules::TERM_WIDTH;
 use scan::Tally;
 ghost use mathlib.Core.Path.{_≡_};
 ghost use lib.ListN.{length};
-ghost use Rattle.rules.specs.Limits.{clampQubits, clampTerms};
 ghost use Rattle.rules.specs.Numbers.{gatesOf};
 ghost use Rattle.rules.specs.Counts.{twos, ts};
 ghost use Rattle.rules.specs.Refusal.{accepted, verdict};
+ghost use Rattle.rules.specs.Pass.{writerOf};
+ghost use Rattle.plan.specs.View.{view};
 ghost use Rattle.scan.specs.Scanning.{gatesIn};
 ghost use Rattle.cnot_min.specs.Minimizing.{Minimizes, Minimized, Rewritable, Rewrites};
 
@@ -31,26 +34,6 @@ pub struct Counts {
 pub enum Answer {
     Refused(Refusal),
     Done(Counts),
-}
-
-// The qubit cap is clamped to 1..128.
-fn clamp_qubits(cap: usize) -> usize
-    ensures { λ r. ⌜ r ≡ clampQubits cap ⌝ }
-{
-    if cap < 1 {
-        1
-    } else if MAX_COLUMNS < cap {
-        MAX_COLUMNS
-    } else {
-        cap
-    }
-}
-
-// The term cap is raised to at least 1.
-fn clamp_terms(cap: usize) -> usize
-    ensures { λ r. ⌜ r ≡ clampTerms cap ⌝ }
-{
-    if cap < 1 { 1 } else { cap }
 }
 
 // The counts of a list and of the gates made of it.
@@ -73,24 +56,22 @@ fn count(list: &[i32], made: &[i32], s: Tally) -> Counts
 fn rewrite(
     list: &[i32],
     wires: usize,
-    qcap: usize,
-    tcap: usize,
     out: &mut [i32],
     terms: &mut [u64],
     steps: &mut [u32],
+    plan: Plan,
 ) -> Counts
-    requires { ⌜ Rewritable (now list) wires (now out) (now terms) (now steps) ⌝ }
-    ensures { λ r. ⌜ Rewrites (now (list .entry)) qcap tcap r (now (out .exit)) (now (terms .exit)) (now (steps .exit)) ⌝ }
+    requires { ⌜ Rewritable (view plan) (now list) wires (now out) (now terms) (now steps) ⌝ }
+    ensures { λ r. ⌜ Rewrites (writerOf (view plan)) (view plan) (now (list .entry)) r (now (out .exit)) (now (terms .exit)) (now (steps .exit)) ⌝ }
 {
-    let mut table = [0u32; 1024];
+    let mut table = [0u32; MAX_WIRES];
     let s = scan::scan(
         list,
-        clamp_qubits(qcap),
-        clamp_terms(tcap),
         &mut table[..wires],
         &mut *out,
         &mut *terms,
         &mut *steps,
+        plan,
     );
     let end = GATE_WIDTH * s.gates;
     let counts = count(list, &out[..end], s);
@@ -100,7 +81,7 @@ fn rewrite(
     counts
 }
 
-// An accepted list: of each room, only the part that is needed is lent on, so nothing beyond it is ever written.
+// An accepted list: the caps are clamped, once; of each room, only the part that is needed is lent on, so nothing beyond it is ever written.
 fn minimize(
     list: &[i32],
     wires: usize,
@@ -118,11 +99,10 @@ fn minimize(
     let c = rewrite(
         list,
         wires,
-        qcap,
-        tcap,
         &mut out[..GATE_WIDTH * g],
         &mut terms[..TERM_WIDTH * (GATE_TERMS * g)],
         &mut steps[..STEP_WIDTH * (g + MAX_COLUMNS)],
+        plan::of_caps(qcap, tcap),
     );
     Answer::Done(c)
 }

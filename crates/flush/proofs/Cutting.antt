@@ -14,7 +14,9 @@ use Rattle.rules.specs.Meaning.{op}
 use Rattle.rules.specs.Counts.{isTwo, twos}
 use Rattle.rules.specs.Fold.{Row, Term, empty}
 use Rattle.rules.specs.Budget.{Budget, budgetOf}
-use Rattle.rules.specs.Synth.{blockOf, resynthesis}
+use Rattle.rules.specs.Synth.{blockOf}
+use Rattle.rules.specs.Plan.{Plan}
+use Rattle.rules.specs.Pass.{writerOf}
 use Rattle.rules.proofs.Bits.{split, same}
 use Rattle.rules.proofs.Bounds.{RowsBelow, TermsBelow, InBounds, bounds-fold}
 use Rattle.rules.proofs.Reading.{gates-length}
@@ -88,9 +90,10 @@ module _ {run place : List ℤ} {b : State.Block} {names rows room nodes held ri
   )
 
   -- what it then has made
-  pub attempted : {after : List ℤ} (p : Pushed) → Synthesizes (blockAt b names rows room) place (ceilings run t) after (view (p .budget)) (p .within)
-      → Writes resynthesis (gatesOf run) after p
-  attempted {after} p h = writes (gatesOf run) place after p (rw (← f .same, ← ceilings-are run t e) h)
+  pub attempted : {after : List ℤ} (plan : Plan) (p : Pushed) → Synthesizes (blockAt b names rows room) place (ceilings run t) after (view (p .budget)) (p .within)
+      → Writes (writerOf plan) (gatesOf run) after p
+  unfolding writerOf
+  attempted {after} plan p h = writes (gatesOf run) place after p (rw (← f .same, ← ceilings-are run t e) h)
 
 -- ---- the parts that are lent
 
@@ -113,9 +116,9 @@ module _ (run place : List ℤ) (b : State.Block) (table names rows room nodes h
         names-in = omega (arith, j .few, j .room);
         rows-in = omega (arith, j .few, f .holds .rows-are .wide, row-count rows);
         terms-in = omega (arith, f .holds .terms-are .few, room-length room);
-        nodes-in = omega (arith, j .few, l .deep);
-        held-in = omega (arith, j .few, l .held, row-count held);
-        right-in = omega (arith, j .few, l .right, row-count right);
+        nodes-in = omega (arith, j .few, l .work .deep);
+        held-in = omega (arith, j .few, l .work .held, row-count held);
+        right-in = omega (arith, j .few, l .work .right, row-count right);
         steps-in = l .long;
       }
 

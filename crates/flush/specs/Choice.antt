@@ -67,13 +67,21 @@ pub record Flushable (run : List ℤ) (b : State.Block) (table names rows room :
   pub holds : Block.Holds (blockOf (gatesOf run)) b table names rows room
   pub wires : length table ≤ maxWires
 
--- the place is as long as the run; a node more than a block may have wires, two matrices, and steps for the run's gates
+-- numbers of a stack that is enough for every block: a node more than it may have wires
+abbrev pub stackLength : ℕ
+stackLength = nodeWidth * (maxColumns + 1)
+
+-- rooms for the engine, whatever the block: a stack and two matrices
+pub record Workroom (nodes from spare : List ℕ) : Type 0 where
+  pub deep : stackLength ≤ length nodes
+  pub held : maxColumns ≤ length (rowsOf from)
+  pub right : maxColumns ≤ length (rowsOf spare)
+
+-- the place is as long as the run; rooms for the engine, and steps for the run's gates
 pub record Lent (run place : List ℤ) (nodes from spare steps : List ℕ) : Type 0 where
   pub many : length (gatesOf run) ≤ maxGates
   pub fits : length place ≡ length run
-  pub deep : nodeWidth * (maxColumns + 1) ≤ length nodes
-  pub held : maxColumns ≤ length (rowsOf from)
-  pub right : maxColumns ≤ length (rowsOf spare)
+  pub work : Workroom nodes from spare
   pub long : stepWidth * (length (gatesOf run) + 1) ≤ length steps
 
 -- ---- what is promised

@@ -2,17 +2,23 @@
 use block::Block;
 use budget::Budget;
 use budget::Pushed;
+use plan::Plan;
 use rules::GATE_WIDTH;
+use rules::MAX_COLUMNS;
 use rules::STEP_WIDTH;
 use rules::TERM_WIDTH;
 use walk::NODE_WIDTH;
 ghost use mathlib.Core.Path.{_≡_};
 ghost use lib.ListN.{length};
 ghost use Rattle.rules.specs.Numbers.{gatesOf};
-ghost use Rattle.rules.specs.Synth.{resynthesis};
 ghost use Rattle.rules.specs.Scan.{Writer};
-ghost use Rattle.budget.specs.View.{view};
+ghost use Rattle.rules.specs.Pass.{writerOf};
+ghost use Rattle.budget.specs.View as Counted;
+ghost use Rattle.plan.specs.View.{view};
 ghost use Rattle.flush.specs.Choice.{keeps, Writes, Exact, Settles, Fitted, Flushable, Lent, Flushes};
+
+// Numbers of a stack that is enough for every block.
+pub const STACK: usize = NODE_WIDTH * (MAX_COLUMNS + 1);
 
 // How many gates the place now has, and whether they are new.
 pub struct Flushed {
@@ -22,7 +28,7 @@ pub struct Flushed {
 
 // The total isn't higher, and the pair of counts is smaller, CNOT and CZ first.
 fn cheaper(b: Budget) -> bool
-    ensures { λ r. ⌜ r ≡ keeps (view b) ⌝ }
+    ensures { λ r. ⌜ r ≡ keeps (Counted.view b) ⌝ }
 {
     (b.all <= b.maxall) & ((b.two < b.maxtwo) | ((b.two == b.maxtwo) & (b.all < b.maxall)))
 }
@@ -58,7 +64,7 @@ fn settle(run: &[i32], place: &mut [i32], p: Pushed) -> Flushed
     }
 }
 
-// The block written again at its place, within the run's own counts. No other function knows by what.
+// The block written again at its place, within the run's own counts, by the plan's writer: the resynthesis, whatever the plan. No other function knows.
 fn attempt(
     run: &[i32],
     place: &mut [i32],
@@ -70,9 +76,10 @@ fn attempt(
     held: &mut [u64],
     right: &mut [u64],
     steps: &mut [u32],
+    plan: Plan,
 ) -> Pushed
     requires { ⌜ Fitted (now run) (now place) block (now names) (now rows) (now room) (now nodes) (now held) (now right) (now steps) ⌝ }
-    ensures { λ r. ⌜ Writes resynthesis (gatesOf (now (run .entry))) (now (place .exit)) r ⌝ }
+    ensures { λ r. ⌜ Writes (writerOf (view plan)) (gatesOf (now (run .entry))) (now (place .exit)) r ⌝ }
 {
     let b = Budget {
         two: 0,
@@ -108,10 +115,11 @@ pub fn flush(
     held: &mut [u64],
     right: &mut [u64],
     steps: &mut [u32],
+    plan: Plan,
 ) -> Flushed
     requires { ⌜ Flushable (now run) block (now table) (now names) (now rows) (now room) ⌝ }
     requires { ⌜ Lent (now run) (now place) (now nodes) (now held) (now right) (now steps) ⌝ }
-    ensures { λ r. ⌜ Flushes resynthesis (now (run .entry)) (now (place .exit)) (now (table .exit)) (now (names .entry)) r ⌝ }
+    ensures { λ r. ⌜ Flushes (writerOf (view plan)) (now (run .entry)) (now (place .exit)) (now (table .exit)) (now (names .entry)) r ⌝ }
 {
     let wires = block.wires;
     let n = wires as usize;
@@ -130,6 +138,7 @@ pub fn flush(
         &mut held[..matrix],
         &mut right[..matrix],
         &mut steps[..most],
+        plan,
     );
     let r = settle(run, place, p);
     join::leave(table, names, wires);

@@ -6,9 +6,9 @@ use lib.IntN.{ℤ}
 use lib.ListN.{length}
 use Rattle.rules.specs.Limits.{width}
 use Rattle.rules.specs.Numbers.{gatesOf}
-use Rattle.rules.specs.Synth.{resynthesis}
+use Rattle.rules.specs.Plan.{planOf}
 use Rattle.rules.specs.Promise.{Promised}
-use Rattle.rules.specs.Pass.{over, pass}
+use Rattle.rules.specs.Pass.{over, writerOf, pass}
 use Rattle.cnot_min.specs.declared.Counts.{Counts}
 use Rattle.reading.specs.Reading.{Head, listGates, read, readText}
 use Rattle.list.specs.Answer.{Answer, answer}
@@ -25,7 +25,7 @@ pub record Says (a : Answer) (room : List ℕ) (r : Listed) (room′ : List ℕ)
 pub record Lists (text room : List ℕ) (r : Listed) (room′ : List ℕ) : Type 0 where
   pub says : Says (answer text) room r room′
   pub promised : (h : Head) (numbers : List ℤ) → readText text ≡ read h numbers
-      → Promised resynthesis (h .qubits) (h .terms) (gatesOf numbers) (pass (h .qubits) (h .terms) (gatesOf numbers))
+      → let p = planOf (h .qubits) (h .terms) in Promised (writerOf p) p (gatesOf numbers) (pass (h .qubits) (h .terms) (gatesOf numbers))
 
 -- whole gates, and no more than 512
 pub record Few (numbers : List ℤ) : Type 0 where

@@ -20,9 +20,10 @@ use Rattle.rules.specs.Fold.{Row, Block, fresh, empty, joined, rowOf, ad
 use Rattle.rules.specs.Walk.{Step, cn, rot, held}
 use Rattle.rules.specs.Close.{units, closing}
 use Rattle.rules.specs.Synth.{rotation, emit, flipsOf, withSteps, synth, blockOf, orElse, resynthesis}
-use Rattle.rules.specs.Scan.{Piece, copied, block, piecesOf, textOf, Writer, Plain, replaces, chosen, passBy}
-use Rattle.rules.specs.Promise.{runsOf, outputs, AllHeld}
-use Rattle.rules.specs.Pass.{pass}
+use Rattle.rules.specs.Plan.{Plan, planOf}
+use Rattle.rules.specs.Scan.{Piece, copied, block, piecesOf, textOf, Writer, Plain, replaces, chosen, finish, passBy}
+use Rattle.rules.specs.Promise.{Held}
+use Rattle.rules.specs.Pass.{writerOf, pass}
 use Rattle.rules.proofs.Bits.{split}
 use Rattle.rules.proofs.Folding.{wiresOf}
 use Rattle.rules.proofs.Walking.{Within, within-append}
@@ -30,7 +31,7 @@ use Rattle.rules.proofs.Closing.{at, anywhere}
 use Rattle.rules.proofs.Emitting.{Apart, apart-fold, index}
 use Rattle.rules.proofs.Blocks.{sizeOf, walkOf, parities, walk-within, closes, synth-is}
 use Rattle.rules.proofs.Total.{SaneOp, Sane, Found, synth-total}
-use Rattle.rules.proofs.Passing.{exactly, chosen-thrifty, thrifty-le}
+use Rattle.rules.proofs.Passing.{pieces-cut, chosen-thrifty, thrifty-le}
 use Rattle.rules.proofs.Reading.{gates-length}
 use Rattle.rules.proofs.Accepting.{Accepted, accepted-is, Fit, fit, Sound, SoundAll, sound-append, sound-parts, accepted-sound, sound-accepted}
 
@@ -216,18 +217,17 @@ resynthesis-sound w b gs s = go (synth (blockOf gs)) refl
 
 -- ---- the pass over any writer
 
-outputs-length : (write : Writer) (ps : List Piece) → length (outputs write ps) ≤ length (textOf ps)
-unfolding outputs textOf
-outputs-length write [] = zero-le
-outputs-length write (copied g ∷ ps) = suc-le-suc (outputs-length write ps)
-outputs-length write (block gs ∷ ps) =
-    omega (arith, length-append (chosen write gs) (outputs write ps), length-append gs (textOf ps), thrifty-le (chosen-thrifty write gs) .0, outputs-length write ps)
+finish-length : (write : Writer) (ps : List Piece) → length (finish write ps .gates) ≤ length (textOf ps)
+unfolding finish textOf
+finish-length write [] = zero-le
+finish-length write (copied g ∷ ps) = suc-le-suc (finish-length write ps)
+finish-length write (block gs ∷ ps) =
+    omega (arith, length-append (chosen write gs) (finish write ps .gates), length-append gs (textOf ps), thrifty-le (chosen-thrifty write gs) .0, finish-length write ps)
 
 -- the output is no longer than the input
-pub output-length : (write : Writer) (q t : ℕ) (gs : List Gate) → length (passBy write q t gs .gates) ≤ length gs
-output-length write q t gs =
-    let e = exactly write q t gs in
-    omega (arith, ap length (e .gates), ap length (e .whole), outputs-length write (piecesOf q t gs))
+pub output-length : (write : Writer) (p : Plan) (gs : List Gate) → length (passBy write p gs .gates) ≤ length gs
+unfolding passBy
+output-length write p gs = omega (arith, ap length (pieces-cut p gs .whole), finish-length write (piecesOf p gs))
 
 -- what the theorem asks of a writer: sound gates of the fragment become sound gates
 abbrev pub KeepsSound : ℕ → ℕ → Writer → Type 0
@@ -238,33 +238,36 @@ module _ (w b : ℕ) (write : Writer) (keeps : KeepsSound w b write) where
   unfolding chosen
   chosen-sound gs p s = split (replaces write gs) (λ e. rw e (keeps gs p s)) (λ e. rw e s)
 
-  outputs-sound : (ps : List Piece) → AllHeld (runsOf ps) → SoundAll w b (textOf ps) → SoundAll w b (outputs write ps)
-  unfolding outputs textOf runsOf AllHeld SoundAll
-  outputs-sound [] p s = tt
-  outputs-sound (copied g ∷ ps) p s = (s .0, outputs-sound ps p (s .1))
-  outputs-sound (block gs ∷ ps) p s =
+  finish-sound : (ps : List Piece) → Held ps → SoundAll w b (textOf ps) → SoundAll w b (finish write ps .gates)
+  unfolding finish textOf Held SoundAll
+  finish-sound [] p s = tt
+  finish-sound (copied g ∷ ps) p s = (s .0, finish-sound ps p (s .1))
+  finish-sound (block gs ∷ ps) p s =
       let r = sound-parts w b gs (textOf ps) s in
-      sound-append w b (chosen write gs) (outputs write ps) (chosen-sound gs (p .0 .1) (r .0)) (outputs-sound ps (p .1) (r .1))
+      sound-append w b (chosen write gs) (finish write ps .gates) (chosen-sound gs (p .0 .1) (r .0)) (finish-sound ps (p .1) (r .1))
 
-  pub output-sound : (q t : ℕ) (gs : List Gate) → SoundAll w b gs → SoundAll w b (passBy write q t gs .gates)
-  output-sound q t gs s =
-      let e = exactly write q t gs in
-      rw (e .gates) (outputs-sound (piecesOf q t gs) (e .held) (subst (SoundAll w b) (sym (e .whole)) s))
+  pub output-sound : (p : Plan) (gs : List Gate) → SoundAll w b gs → SoundAll w b (passBy write p gs .gates)
+  unfolding passBy
+  output-sound p gs s = let c = pieces-cut p gs in finish-sound (piecesOf p gs) (c .held) (subst (SoundAll w b) (sym (c .whole)) s)
 
   pub output-accepted-by : (l : List ℤ) (out terms steps : ℕ) → verdict l w b out terms steps ≡ accepted
-      → (q t : ℕ) → verdict (numbersOf (passBy write q t (gatesOf l) .gates)) w b out terms steps ≡ accepted
-  output-accepted-by l out terms steps e q t =
+      → (p : Plan) → verdict (numbersOf (passBy write p (gatesOf l) .gates)) w b out terms steps ≡ accepted
+  output-accepted-by l out terms steps e p =
       let a : Accepted l w b out terms steps = accepted-is l w b out terms steps e in
       let gs : List Gate = gatesOf l in
-      let new : List Gate = passBy write q t gs .gates in
-      let short : length new ≤ length gs = output-length write q t gs in
+      let new : List Gate = passBy write p gs .gates in
+      let short : length new ≤ length gs = output-length write p gs in
       let size : length gs ≡ length l / width = gates-length l in
-      sound-accepted new w b out terms steps (output-sound q t gs (accepted-sound l w b out terms steps e))
+      sound-accepted new w b out terms steps (output-sound p gs (accepted-sound l w b out terms steps e))
       (omega arith) (a .wires) (a .bits) (omega arith) (omega arith) (omega arith)
 
 -- ---- document 01's pass
 
+pub plan-sound : (w b : ℕ) (p : Plan) → KeepsSound w b (writerOf p)
+unfolding writerOf
+plan-sound w b p gs h s = resynthesis-sound w b gs s
+
 pub output-accepted : (l : List ℤ) (w b out terms steps : ℕ) → verdict l w b out terms steps ≡ accepted
     → (q t : ℕ) → verdict (numbersOf (pass q t (gatesOf l) .gates)) w b out terms steps ≡ accepted
 unfolding pass
-output-accepted l w b out terms steps e q t = output-accepted-by w b resynthesis (λ gs p s. resynthesis-sound w b gs s) l out terms steps e q t
+output-accepted l w b out terms steps e q t = let p = planOf q t in output-accepted-by w b (writerOf p) (plan-sound w b p) l out terms steps e p

@@ -3,12 +3,12 @@ use mathlib.Core.Path.{_≡_, refl, sym, ap, _∙_, subst, fun-ext}
 use mathlib.Core.Logic.{_≢_, _⊎_, inl, inr}
 use mathlib.Core.Bool.{Bool, true, false, _&&_, _||_, false≢true}
 use mathlib.Core.List.{List, [], _∷_, _++_, map, append-assoc}
-use Prim.Native.Nat.{ℕ, zero, _+_, _%_, _≤_, _<_}
+use Prim.Native.Nat.{ℕ, zero, suc, _+_, _%_, _≤_, _<_}
 use native.Mathlib.Omega.{arith}
 use lib.ListN.{length, length-append}
 use lib.Dec.{eqb, leb, ltb}
 use borrow.Author.Tests.{eqb-true, leb-true, ltb-true}
-use Rattle.rules.specs.Limits.{clampQubits, clampTerms}
+use Rattle.rules.specs.Plan.{Plan}
 use Rattle.rules.specs.Gate.{Gate}
 use Rattle.rules.specs.Meaning.{Op, op, opaque, wires, phases, Alike}
 use Rattle.rules.specs.Stretch.{parts, Stretchwise, AlikeGates}
@@ -16,7 +16,7 @@ use Rattle.rules.specs.Counts.{twos, cheaper, Thrifty, unchanged, fewer}
 use Rattle.rules.specs.Fold.{Block, empty}
 use Rattle.rules.specs.Synth.{blockOf}
 use Rattle.rules.specs.Scan.{takes, Piece, copied, block, closed, cut, piecesOf, textOf, Writer, Plain, Lawful, chosen, replaces, Result, finish, passBy}
-use Rattle.rules.specs.Promise.{runsOf, outputs, replacedIn, AllHeld, Exactly, Promised}
+use Rattle.rules.specs.Promise.{Held, Changes, end, copy, keep, replace, Exactly, Promised}
 use Rattle.rules.proofs.Bits.{split, and-left, and-right}
 use Rattle.rules.proofs.Emitting.{wires-app, phases-app, map-app}
 
@@ -30,56 +30,74 @@ plain-append (u ∷ us) vs h k = (h .0, plain-append us vs (h .1) k)
 -- the blocks hold gates of the fragment, at least one each
 pub record Cuts (gs : List Gate) (ps : List Piece) : Type 0 where
   pub whole : textOf ps ≡ gs
-  pub held : AllHeld (runsOf ps)
+  pub held : Held ps
 
 closed-cuts : (run gs : List Gate) (ps : List Piece) → Plain run → Cuts gs ps → Cuts (run ++ gs) (closed run ps)
-unfolding textOf runsOf AllHeld
+unfolding textOf Held
 closed-cuts [] gs ps h k = k
 closed-cuts (r ∷ run) gs ps h k = record { whole = ap (λ (l : List Gate). (r ∷ run) ++ l) (k .whole); held = (((λ e. full e), h), k .held) }
   where
     full : (r ∷ run) ≡ [] → ⊥
     full e = let z : _≡_ {A = ℕ} 0 1 = cc in omega arith
 
-takes-plain : (q t : ℕ) (o : Op) (b : Block) → takes q t o b ≡ true → opaque o ≡ false
+takes-plain : (p : Plan) (o : Op) (b : Block) → takes p o b ≡ true → opaque o ≡ false
 unfolding takes
-takes-plain q t o b e = split (opaque o) (λ f. absurd (false≢true (rw f at e))) (λ f. f)
+takes-plain p o b e = split (opaque o) (λ f. absurd (false≢true (rw f at e))) (λ f. f)
 
-pub cut-cuts : (q t : ℕ) (run gs : List Gate) → Plain run → Cuts (run ++ gs) (cut q t run gs)
-unfolding cut textOf runsOf AllHeld Plain
-cut-cuts q t run [] h = closed-cuts run [] [] h (record { whole = refl; held = tt })
-cut-cuts q t run (g ∷ gs) h =
-    split (takes q t (op g) (blockOf run))
-    (λ e. rw e (subst (λ (l : List Gate). Cuts l (cut q t (run ++ (g ∷ [])) gs)) (append-assoc run (g ∷ []) gs)
-    (cut-cuts q t (run ++ (g ∷ [])) gs (plain-append run (g ∷ []) h (takes-plain q t (op g) (blockOf run) e, tt)))))
-    (λ e. split (takes q t (op g) empty)
-    (λ f. rw (e, f) (closed-cuts run (g ∷ gs) (cut q t (g ∷ []) gs) h (cut-cuts q t (g ∷ []) gs (takes-plain q t (op g) empty f, tt))))
-    (λ f. rw (e, f) (closed-cuts run (g ∷ gs) (copied g ∷ cut q t [] gs) h
-    (let r = cut-cuts q t [] gs tt in record { whole = ap (λ (l : List Gate). g ∷ l) (r .whole); held = r .held }))))
+pub cut-cuts : (p : Plan) (run gs : List Gate) → Plain run → Cuts (run ++ gs) (cut p run gs)
+unfolding cut textOf Held Plain
+cut-cuts p run [] h = closed-cuts run [] [] h (record { whole = refl; held = tt })
+cut-cuts p run (g ∷ gs) h =
+    split (takes p (op g) (blockOf run))
+    (λ e. rw e (subst (λ (l : List Gate). Cuts l (cut p (run ++ (g ∷ [])) gs)) (append-assoc run (g ∷ []) gs)
+    (cut-cuts p (run ++ (g ∷ [])) gs (plain-append run (g ∷ []) h (takes-plain p (op g) (blockOf run) e, tt)))))
+    (λ e. split (takes p (op g) empty)
+    (λ f. rw (e, f) (closed-cuts run (g ∷ gs) (cut p (g ∷ []) gs) h (cut-cuts p (g ∷ []) gs (takes-plain p (op g) empty f, tt))))
+    (λ f. rw (e, f) (closed-cuts run (g ∷ gs) (copied g ∷ cut p [] gs) h
+    (let r = cut-cuts p [] gs tt in record { whole = ap (λ (l : List Gate). g ∷ l) (r .whole); held = r .held }))))
 
-pub pieces-cut : (q t : ℕ) (gs : List Gate) → Cuts gs (piecesOf q t gs)
+pub pieces-cut : (p : Plan) (gs : List Gate) → Cuts gs (piecesOf p gs)
 unfolding piecesOf Plain
-pieces-cut q t gs = cut-cuts (clampQubits q) (clampTerms t) [] gs tt
+pieces-cut p gs = cut-cuts p [] gs tt
 
 -- ---- exactly
 
-finish-is : (write : Writer) (ps : List Piece)
-    → finish write ps ≡ record { gates = outputs write ps; blocks = length (runsOf ps); replaced = replacedIn write (runsOf ps) }
-unfolding finish outputs runsOf replacedIn
-finish-is write [] = refl
-finish-is write (copied g ∷ ps) = rw (finish-is write ps)
-finish-is write (block gs ∷ ps) = rw (finish-is write ps)
+-- what is made of the pieces is what the rules say
+finish-changes : (write : Writer) (ps : List Piece) → let r = finish write ps in Changes write ps (r .gates) (r .blocks) (r .replaced)
+unfolding finish chosen replaces
+finish-changes write [] = end
+finish-changes write (copied g ∷ ps) = copy g (finish-changes write ps)
+finish-changes write (block gs ∷ ps) =
+    let more : 1 + finish write ps .replaced ≡ suc (finish write ps .replaced) = omega arith in
+    let none : 0 + finish write ps .replaced ≡ finish write ps .replaced = omega arith in
+    split (cheaper (write gs) gs)
+    (λ e. rw (e, more) (replace gs e (finish-changes write ps)))
+    (λ e. rw (e, none) (keep gs e (finish-changes write ps)))
 
-pub exactly : (write : Writer) (q t : ℕ) (gs : List Gate) → Exactly write q t gs (passBy write q t gs)
+-- and the rules allow nothing else
+pub changes-finish : {write : Writer} {ps : List Piece} {out : List Gate} {m n : ℕ} → Changes write ps out m n
+    → finish write ps ≡ record { gates = out; blocks = m; replaced = n }
+unfolding finish chosen replaces
+changes-finish end = refl
+changes-finish (copy g c) = rw (changes-finish c)
+changes-finish {n = n} (keep gs e c) = let none : 0 + n ≡ n = omega arith in rw (e, changes-finish c, none)
+changes-finish (replace {n = n} gs e c) = let more : 1 + n ≡ suc n = omega arith in rw (e, changes-finish c, more)
+
+full : {m : ℕ} (gs rest : List Gate) → gs ≢ [] → m ≤ length rest → suc m ≤ length (gs ++ rest)
+full [] rest n l = absurd (n refl)
+full (g ∷ gs) rest n l = omega (arith, length-append gs rest)
+
+-- no more blocks are replaced than closed, and no more closed than there are gates
+pub changes-few : {write : Writer} {ps : List Piece} {out : List Gate} {m n : ℕ} → Held ps → Changes write ps out m n → (n ≤ m) × (m ≤ length (textOf ps))
+unfolding textOf Held
+changes-few h end = (omega arith, omega arith)
+changes-few h (copy g c) = let k = changes-few h c in (k .0, omega arith)
+changes-few h (keep {ps} gs e c) = let k = changes-few (h .1) c in (omega arith, full gs (textOf ps) (h .0 .0) (k .1))
+changes-few h (replace {ps} gs e c) = let k = changes-few (h .1) c in (omega arith, full gs (textOf ps) (h .0 .0) (k .1))
+
+pub exactly : (write : Writer) (p : Plan) (gs : List Gate) → Exactly write p gs (passBy write p gs)
 unfolding passBy
-exactly write q t gs =
-    let e = finish-is write (piecesOf q t gs) in
-    record {
-      whole = pieces-cut q t gs .whole;
-      held = pieces-cut q t gs .held;
-      gates = ap (λ (r : Result). r .gates) e;
-      blocks = ap (λ (r : Result). r .blocks) e;
-      replaced = ap (λ (r : Result). r .replaced) e;
-    }
+exactly write p gs = record { whole = pieces-cut p gs .whole; held = pieces-cut p gs .held; changes = finish-changes write (piecesOf p gs) }
 
 -- ---- stretch by stretch, for any relation that holds of each block and goes through appending
 
@@ -98,31 +116,33 @@ parts-plain (u ∷ us) vs h = rw (h .0, parts-plain us vs (h .1))
 
 module _ (write : Writer) (plain : (gs : List Gate) → Plain gs → Plain (write gs)) (R : List Gate → List Gate → Type 0) (joins : Joins R)
     (each : (gs : List Gate) → Plain gs → R (chosen write gs) gs) where
-  pub outputs-stretches : (ps : List Piece) → AllHeld (runsOf ps) → Stretchwise R (outputs write ps) (textOf ps)
-  unfolding outputs textOf runsOf AllHeld parts
-  outputs-stretches [] h = record { first = joins .same []; rest = tt }
-  outputs-stretches (copied g ∷ ps) h =
-      let ih = outputs-stretches ps h in
+  finish-stretches : (ps : List Piece) → Held ps → Stretchwise R (finish write ps .gates) (textOf ps)
+  unfolding finish textOf Held parts
+  finish-stretches [] h = record { first = joins .same []; rest = tt }
+  finish-stretches (copied g ∷ ps) h =
+      let ih = finish-stretches ps h in
       split (opaque (op g))
       (λ e. record { first = rw e (joins .same []); rest = rw e (refl, ih .first, ih .rest) })
       (λ e. record {
-        first = rw e (joins .append (g ∷ []) (g ∷ []) (parts (outputs write ps) .first) (parts (textOf ps) .first) (joins .same (g ∷ [])) (ih .first));
+        first = rw e (joins .append (g ∷ []) (g ∷ []) (parts (finish write ps .gates) .first) (parts (textOf ps) .first) (joins .same (g ∷ [])) (ih .first));
         rest = rw e (ih .rest);
       })
-  outputs-stretches (block gs ∷ ps) h =
-      let ih = outputs-stretches ps (h .1) in
+  finish-stretches (block gs ∷ ps) h =
+      let ih = finish-stretches ps (h .1) in
       let new : List Gate = chosen write gs in
-      let a = parts-plain new (outputs write ps) (chosen-plain write gs (plain gs) (h .0 .1)) in
+      let rest : List Gate = finish write ps .gates in
+      let a = parts-plain new rest (chosen-plain write gs (plain gs) (h .0 .1)) in
       let b = parts-plain gs (textOf ps) (h .0 .1) in
       record {
-        first = rw (a, b) (joins .append new gs (parts (outputs write ps) .first) (parts (textOf ps) .first) (each gs (h .0 .1)) (ih .first));
+        first = rw (a, b) (joins .append new gs (parts rest .first) (parts (textOf ps) .first) (each gs (h .0 .1)) (ih .first));
         rest = rw (a, b) (ih .rest);
       }
 
-  pub pass-stretches : (q t : ℕ) (gs : List Gate) → Stretchwise R (passBy write q t gs .gates) gs
-  pass-stretches q t gs =
-      let e = exactly write q t gs in
-      rw (e .gates) (subst (λ (l : List Gate). Stretchwise R (outputs write (piecesOf q t gs)) l) (e .whole) (outputs-stretches (piecesOf q t gs) (e .held)))
+  pub pass-stretches : (p : Plan) (gs : List Gate) → Stretchwise R (passBy write p gs .gates) gs
+  unfolding passBy
+  pass-stretches p gs =
+      let c = pieces-cut p gs in
+      subst (λ (l : List Gate). Stretchwise R (finish write (piecesOf p gs) .gates) l) (c .whole) (finish-stretches (piecesOf p gs) (c .held))
 
 -- ---- acting alike
 
@@ -157,9 +177,9 @@ alike-joins =
     }
 
 -- every setting goes to the same setting, and the phases of a stretch differ by one number modulo 8
-pub stretches : (write : Writer) → Lawful write → (q t : ℕ) (gs : List Gate) → Stretchwise AlikeGates (passBy write q t gs .gates) gs
+pub stretches : (write : Writer) → Lawful write → (p : Plan) (gs : List Gate) → Stretchwise AlikeGates (passBy write p gs .gates) gs
 unfolding chosen
-stretches write law q t gs = pass-stretches write (law .plain) AlikeGates alike-joins each q t gs
+stretches write law p gs = pass-stretches write (law .plain) AlikeGates alike-joins each p gs
   where
     each : (gs : List Gate) → Plain gs → AlikeGates (chosen write gs) gs
     each gs h = split (replaces write gs) (λ e. rw e (law .alike gs h)) (λ e. rw e (alike-refl (map op gs)))
@@ -231,13 +251,13 @@ thrifty-append us us′ vs vs′ (fewer l t (inr s)) k =
     let b = thrifty-le k in fewer-append us us′ vs vs′ (fewer l t (inr s)) k (inr (omega arith))
 
 -- each stretch is unchanged, or has no more gates, no more CNOT and CZ together, and fewer of one of these
-pub stretch-by-stretch : (write : Writer) → ((gs : List Gate) → Plain gs → Plain (write gs)) → (q t : ℕ) (gs : List Gate) → Stretchwise Thrifty (passBy write q t gs .gates) gs
-stretch-by-stretch write plain q t gs = pass-stretches write plain Thrifty (record { same = λ us. unchanged refl; append = thrifty-append }) each q t gs
+pub stretch-by-stretch : (write : Writer) → ((gs : List Gate) → Plain gs → Plain (write gs)) → (p : Plan) (gs : List Gate) → Stretchwise Thrifty (passBy write p gs .gates) gs
+stretch-by-stretch write plain p gs = pass-stretches write plain Thrifty (record { same = λ us. unchanged refl; append = thrifty-append }) each p gs
   where
     each : (gs : List Gate) → Plain gs → Thrifty (chosen write gs) gs
     each gs h = chosen-thrifty write gs
 
 -- demand 3, for any lawful writer
-pub promised-by : (write : Writer) → Lawful write → (q t : ℕ) (gs : List Gate) → Promised write q t gs (passBy write q t gs)
-promised-by write law q t gs =
-    record { alike = stretches write law q t gs; thrifty = stretch-by-stretch write (law .plain) q t gs; exactly = exactly write q t gs }
+pub promised-by : (write : Writer) → Lawful write → (p : Plan) (gs : List Gate) → Promised write p gs (passBy write p gs)
+promised-by write law p gs =
+    record { alike = stretches write law p gs; thrifty = stretch-by-stretch write (law .plain) p gs; exactly = exactly write p gs }

@@ -12,7 +12,8 @@ use Rattle.rules.specs.Close.{units, closing}
 use Rattle.rules.specs.Synth.{rotation, emit, flipsOf, withSteps, synth, blockOf, orElse, resynthesis}
 use Rattle.rules.specs.Scan.{Plain, Lawful}
 use Rattle.rules.specs.Promise.{Promised}
-use Rattle.rules.specs.Pass.{pass}
+use Rattle.rules.specs.Plan.{Plan, planOf}
+use Rattle.rules.specs.Pass.{writerOf, pass}
 use Rattle.rules.proofs.Bits.{split}
 use Rattle.rules.proofs.Blocks.{block-alike}
 use Rattle.rules.proofs.Passing.{plain-append, alike-refl, promised-by}
@@ -78,7 +79,12 @@ lawful =
     plain gs h none e = h
     plain gs h (some new) e = plain-synth (fold (map op gs) empty) new e
 
+-- whatever the plan
+pub plan-lawful : (p : Plan) → Lawful (writerOf p)
+unfolding writerOf
+plan-lawful p = lawful
+
 -- demand 3 of document 01's pass, for every list and any two caps
-pub promised : (q t : ℕ) (gs : List Gate) → Promised resynthesis q t gs (pass q t gs)
+pub promised : (q t : ℕ) (gs : List Gate) → let p = planOf q t in Promised (writerOf p) p gs (pass q t gs)
 unfolding pass
-promised q t gs = promised-by resynthesis lawful q t gs
+promised q t gs = let p = planOf q t in promised-by (writerOf p) (plan-lawful p) p gs

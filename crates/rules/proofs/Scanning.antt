@@ -8,6 +8,7 @@ use Rattle.rules.specs.Gate.{Gate}
 use Rattle.rules.specs.Meaning.{op}
 use Rattle.rules.specs.Fold.{empty}
 use Rattle.rules.specs.Synth.{blockOf}
+use Rattle.rules.specs.Plan.{Plan}
 use Rattle.rules.specs.Scan.{takes, Piece, copied, block, closed, cut, Writer, chosen, replaces, Result, finish}
 
 -- nothing yet
@@ -50,33 +51,33 @@ finish-closed write (g ∷ gs) ps =
     let m : 1 + finish write ps .blocks ≡ suc (finish write ps .blocks) = omega arith in
     rw m
 
-module _ (write : Writer) (q t : ℕ) (run : List Gate) where
-  pub scan-end : finish write (cut q t run []) ≡ shut write run
+module _ (write : Writer) (p : Plan) (run : List Gate) where
+  pub scan-end : finish write (cut p run []) ≡ shut write run
   unfolding cut finish
   scan-end = finish-closed write run [] ∙ onto-none (shut write run)
 
   module _ (g : Gate) (gs : List Gate) where
     -- the block takes the gate
-    pub scan-on : takes q t (op g) (blockOf run) ≡ true → finish write (cut q t run (g ∷ gs)) ≡ finish write (cut q t (run ++ (g ∷ [])) gs)
+    pub scan-on : takes p (op g) (blockOf run) ≡ true → finish write (cut p run (g ∷ gs)) ≡ finish write (cut p (run ++ (g ∷ [])) gs)
     unfolding cut
     scan-on e = rw e
 
     -- the block ends, and the gate starts the next
-    pub scan-anew : takes q t (op g) (blockOf run) ≡ false → takes q t (op g) empty ≡ true
-        → finish write (cut q t run (g ∷ gs)) ≡ onto (shut write run) (finish write (cut q t (g ∷ []) gs))
+    pub scan-anew : takes p (op g) (blockOf run) ≡ false → takes p (op g) empty ≡ true
+        → finish write (cut p run (g ∷ gs)) ≡ onto (shut write run) (finish write (cut p (g ∷ []) gs))
     unfolding cut
-    scan-anew e f = rw (e, f) (finish-closed write run (cut q t (g ∷ []) gs))
+    scan-anew e f = rw (e, f) (finish-closed write run (cut p (g ∷ []) gs))
 
     -- the block ends, and the gate is copied
-    pub scan-alone : takes q t (op g) (blockOf run) ≡ false → takes q t (op g) empty ≡ false
-        → finish write (cut q t run (g ∷ gs)) ≡ onto (shut write run) (onto (alone g) (finish write (cut q t [] gs)))
+    pub scan-alone : takes p (op g) (blockOf run) ≡ false → takes p (op g) empty ≡ false
+        → finish write (cut p run (g ∷ gs)) ≡ onto (shut write run) (onto (alone g) (finish write (cut p [] gs)))
     unfolding cut finish
-    scan-alone e f = rw (e, f) (finish-closed write run (copied g ∷ cut q t [] gs) ∙ ap (onto (shut write run)) one)
+    scan-alone e f = rw (e, f) (finish-closed write run (copied g ∷ cut p [] gs) ∙ ap (onto (shut write run)) one)
       where
         rest : Result
-        rest = finish write (cut q t [] gs)
+        rest = finish write (cut p [] gs)
 
-        one : finish write (copied g ∷ cut q t [] gs) ≡ onto (alone g) rest
+        one : finish write (copied g ∷ cut p [] gs) ≡ onto (alone g) rest
         one =
             let m : zero + rest .blocks ≡ rest .blocks = omega arith in
             let n : zero + rest .replaced ≡ rest .replaced = omega arith in

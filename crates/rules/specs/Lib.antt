@@ -12,6 +12,7 @@ pub mod Walk
 pub mod Order
 pub mod Close
 pub mod Synth
+pub mod Plan
 pub mod Scan
 pub mod Promise
 pub mod Pass

@@ -9,12 +9,18 @@ use Rattle.rules.specs.Numbers.{gatesOf, numbersOf}
 use Rattle.rules.specs.Refusal.{Refusal, Verdict, accepted, refused, verdict}
 use Rattle.rules.specs.Counts.{twos, ts}
 use Rattle.rules.specs.Synth.{resynthesis}
-use Rattle.rules.specs.Scan.{Result, passBy}
+use Rattle.rules.specs.Plan.{Plan, planOf}
+use Rattle.rules.specs.Scan.{Writer, Result, passBy}
 
--- each block written again by document 01's resynthesis
+-- what a plan rewrites a block to: document 01's resynthesis, whatever the caps are
+unfoldable pub writerOf : Plan → Writer
+unfolding resynthesis
+writerOf p = resynthesis
+
+-- the pass at any two caps
 unfoldable pub pass : ℕ → ℕ → List Gate → Result
-unfolding passBy resynthesis
-pass qcap tcap gs = passBy resynthesis qcap tcap gs
+unfolding passBy writerOf
+pass qcap tcap gs = let p = planOf qcap tcap in passBy (writerOf p) p gs
 
 -- the eight counts, in document 01's order
 pub record Counts : Type 0 where

@@ -6,7 +6,7 @@ use mathlib.Core.List.{List, [], _∷_, _++_, map}
 use Prim.Native.Nat.{ℕ, zero, suc, _+_}
 use lib.ListN.{length}
 use lib.Dec.{eqb, leb, ltb}
-use Rattle.rules.specs.Limits.{clampQubits, clampTerms}
+use Rattle.rules.specs.Plan.{Plan}
 use Rattle.rules.specs.Gate.{Gate}
 use Rattle.rules.specs.Meaning.{Op, flip, phase, cnot, cz, other, op, opaque, Alike}
 use Rattle.rules.specs.Counts.{cheaper}
@@ -30,9 +30,9 @@ roomy cap (cz c t) b = true
 roomy cap other b = true
 
 -- the gate can go on the block: of the fragment, within the qubit cap, within the term cap
-unfoldable pub takes : ℕ → ℕ → Op → Block → Bool
+unfoldable pub takes : Plan → Op → Block → Bool
 unfolding entered roomy
-takes qcap tcap o b = not (opaque o) && (leb (length (entered o (b .rows))) qcap && roomy tcap o b)
+takes p o b = not (opaque o) && (leb (length (entered o (b .rows))) (p .qubits) && roomy (p .terms) o b)
 
 -- ---- the pieces
 
@@ -48,20 +48,20 @@ closed (g ∷ gs) ps = block (g ∷ gs) ∷ ps
 
 -- the list after a block's run so far. A gate that the block can't take closes it and is tried again on the empty block;
 -- what that can't take, an opaque gate or one wider than the cap, is copied and no block starts
-unfoldable pub cut : ℕ → ℕ → List Gate → List Gate → List Piece
+unfoldable pub cut : Plan → List Gate → List Gate → List Piece
 unfolding takes op blockOf
-cut qcap tcap run [] = closed run []
-cut qcap tcap run (g ∷ gs) =
-    let on = cut qcap tcap (run ++ (g ∷ [])) gs in
-    let anew = closed run (cut qcap tcap (g ∷ []) gs) in
-    let alone = closed run (copied g ∷ cut qcap tcap [] gs) in
-    let shut = cond (takes qcap tcap (op g) empty) anew alone in
-    cond (takes qcap tcap (op g) (blockOf run)) on shut
+cut p run [] = closed run []
+cut p run (g ∷ gs) =
+    let on = cut p (run ++ (g ∷ [])) gs in
+    let anew = closed run (cut p (g ∷ []) gs) in
+    let alone = closed run (copied g ∷ cut p [] gs) in
+    let shut = cond (takes p (op g) empty) anew alone in
+    cond (takes p (op g) (blockOf run)) on shut
 
--- the pieces of a list, at any two caps
-unfoldable pub piecesOf : ℕ → ℕ → List Gate → List Piece
+-- the pieces of a list
+unfoldable pub piecesOf : Plan → List Gate → List Piece
 unfolding cut
-piecesOf qcap tcap gs = cut (clampQubits qcap) (clampTerms tcap) [] gs
+piecesOf p gs = cut p [] gs
 
 -- the list that was cut up
 unfoldable pub textOf : List Piece → List Gate
@@ -112,6 +112,6 @@ finish write (block gs ∷ ps) =
     let r = finish write ps in
     record { gates = chosen write gs ++ r .gates; blocks = suc (r .blocks); replaced = cond (replaces write gs) 1 0 + r .replaced }
 
-unfoldable pub passBy : Writer → ℕ → ℕ → List Gate → Result
+unfoldable pub passBy : Writer → Plan → List Gate → Result
 unfolding piecesOf finish
-passBy write qcap tcap gs = finish write (piecesOf qcap tcap gs)
+passBy write p gs = finish write (piecesOf p gs)

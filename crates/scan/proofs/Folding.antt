@@ -11,6 +11,7 @@ use Rattle.rules.specs.Gate as Paper
 use Rattle.rules.specs.Numbers.{gateAt, gatesFrom, gatesOf}
 use Rattle.rules.specs.Meaning.{Op, op}
 use Rattle.rules.specs.Fold as Fold
+use Rattle.rules.specs.Plan.{Plan}
 use Rattle.rules.specs.Scan.{takes, cut}
 use Rattle.rules.specs.Synth.{blockOf}
 use Rattle.rules.proofs.Reading.{from-append, from-length}
@@ -27,7 +28,7 @@ use Rattle.block.proofs.Codes.{op-read}
 use Rattle.block.proofs.Entering.{empty-holds}
 use Rattle.block.proofs.Folding.{terms-length}
 use Rattle.block.proofs.Using.{holds-same, holds-sound, wired-read}
-use Rattle.scan.specs.Scanning.{gatesIn, run, rest, Sound, Clear, Wide}
+use Rattle.scan.specs.Scanning.{gatesIn, run, rest, Checked, Clear, Wide}
 
 -- ---- runs of gates
 
@@ -88,20 +89,20 @@ folded-terms l i j =
     let e : length (map op (run l i j)) ≡ j - i = length-map (run l i j) op ∙ from-length l (j - i) i in
     omega (arith, length-terms (map op (run l i j)) Fold.empty)
 
-cut-one : (q t : ℕ) (r : List Paper.Gate) (g : Paper.Gate) (gs : List Paper.Gate) → takes q t (op g) (blockOf r) ≡ true → cut q t r (g ∷ gs) ≡ cut q t (r ++ (g ∷ [])) gs
+cut-one : (p : Plan) (r : List Paper.Gate) (g : Paper.Gate) (gs : List Paper.Gate) → takes p (op g) (blockOf r) ≡ true → cut p r (g ∷ gs) ≡ cut p (r ++ (g ∷ [])) gs
 unfolding cut
-cut-one q t r g gs e = rw e refl
+cut-one p r g gs e = rw e refl
 
 -- the block takes the gate: the list is cut behind it as it is before it
-pub cut-on : (q t : ℕ) (l : List ℤ) (i j : ℕ) → i ≤ j → j < gatesIn l → takes q t (op (gateAt l j)) (folded l i j) ≡ true
-    → cut q t (run l i j) (rest l j) ≡ cut q t (run l i (j + 1)) (rest l (j + 1))
-cut-on q t l i j h k e = rw (rest-next l j k, run-next l i j h) (cut-one q t (run l i j) (gateAt l j) (rest l (j + 1)) e)
+pub cut-on : (p : Plan) (l : List ℤ) (i j : ℕ) → i ≤ j → j < gatesIn l → takes p (op (gateAt l j)) (folded l i j) ≡ true
+    → cut p (run l i j) (rest l j) ≡ cut p (run l i (j + 1)) (rest l (j + 1))
+cut-on p l i j h k e = rw (rest-next l j k, run-next l i j h) (cut-one p (run l i j) (gateAt l j) (rest l (j + 1)) e)
 
 module _ (l : List ℤ) (table names rows room : List ℕ) where
   pub start : (i : ℕ) (b : State.Block) → Empty b → Clear l table room → Wide names rows → Holds (folded l i i) b table names rows room
   start i b e c w = rw (folded-none l i) (empty-holds b table names rows room e (c .clear) (w .named) (w .rowed))
 
-  pub wired : (w j : ℕ) (g : Gate) → Sound l w → j < gatesIn l → Reads (gateAt l j) g → length table ≡ w → Wired g table
+  pub wired : (w j : ℕ) (g : Gate) → Checked l w → j < gatesIn l → Reads (gateAt l j) g → length table ≡ w → Wired g table
   wired w j g s h r e = wired-read w (s .bits) (gateAt l j) g table (fit-at l w (s .bits) j (s .each j h)) r e
 
   pub spare : (i j : ℕ) (b : State.Block) → Holds (folded l i j) b table names rows room → j < gatesIn l
@@ -111,10 +112,10 @@ module _ (l : List ℤ) (table names rows room : List ℕ) where
       omega (arith, folded-terms l i j)
 
   -- the test's answer, of the block itself
-  pub asked : (i j q t : ℕ) (g : Gate) (b : State.Block) (r : Bool) → Reads (gateAt l j) g → Holds (folded l i j) b table names rows room
-      → ((ns : List ℕ) → Rowed b table ns rows → r ≡ takes q t (op (gateOf g)) (blockAt b ns rows room)) → takes q t (op (gateAt l j)) (folded l i j) ≡ r
-  asked i j q t g b r d h f =
-      ap (λ (o : Op). takes q t o (folded l i j)) (sym (op-read (gateAt l j) g d)) ∙ ap (takes q t (op (gateOf g))) (sym (holds-same h)) ∙ sym (f names (holds-sound h .rows-are))
+  pub asked : (i j : ℕ) (p : Plan) (g : Gate) (b : State.Block) (r : Bool) → Reads (gateAt l j) g → Holds (folded l i j) b table names rows room
+      → ((ns : List ℕ) → Rowed b table ns rows → r ≡ takes p (op (gateOf g)) (blockAt b ns rows room)) → takes p (op (gateAt l j)) (folded l i j) ≡ r
+  asked i j p g b r d h f =
+      ap (λ (o : Op). takes p o (folded l i j)) (sym (op-read (gateAt l j) g d)) ∙ ap (takes p (op (gateOf g))) (sym (holds-same h)) ∙ sym (f names (holds-sound h .rows-are))
 
   -- the gate that was read, folded
   pub next : (i j : ℕ) (g : Gate) (b r : State.Block) (table′ names′ rows′ room′ : List ℕ) → i ≤ j → Reads (gateAt l j) g → Holds (folded l i j) b table names rows room

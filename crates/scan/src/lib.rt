@@ -1,15 +1,22 @@
 // The scan: the list cut into blocks and copied gates, each block written again where that is cheaper, the result side by side in the output.
 use block::Block;
 use flush::Flushed;
+use flush::STACK;
+use plan::Plan;
 use rules::GATE_WIDTH;
+use rules::MAX_COLUMNS;
 ghost use mathlib.Core.Path.{_≡_};
 ghost use mathlib.Core.Bool.{cond};
 ghost use mathlib.Core.List.{List, _++_};
-ghost use Prim.Native.Nat.{ℕ, suc, _+_, _≤_, _<_};
-ghost use lib.ListN.{length, getD};
-ghost use Rattle.rules.specs.Limits.{maxGates, maxColumns};
+ghost use Prim.Native.Nat.{ℕ, suc, _+_, _≤_};
+ghost use Rattle.rules.specs.Limits.{maxGates};
 ghost use Rattle.rules.specs.Numbers.{gateAt, numbers};
-ghost use Rattle.scan.specs.Scanning.{gatesIn, made, Sound, Clear, Wide, Spared, Stops, Closable, Closes, Copyable, Low, Stands, Scannable, Scans};
+ghost use Rattle.rules.specs.Pass.{writerOf};
+ghost use Rattle.plan.specs.View.{view};
+ghost use Rattle.scan.specs.Scanning.{made, Spared, Foldable, Stops, Closable, Closes, Copyable, Low, Ready, Advances, Scannable, Scans};
+
+// Words of a matrix for the widest block.
+const MATRIX: usize = 2 * MAX_COLUMNS;
 
 // The block of a run of gates, and the place behind the run.
 pub struct Run {
@@ -29,25 +36,21 @@ pub struct Tally {
 fn fold_run(
     list: &[i32],
     start: usize,
-    qcap: usize,
-    tcap: usize,
     table: &mut [u32],
     names: &mut [u32],
     rows: &mut [u64],
     room: &mut [u64],
+    plan: Plan,
 ) -> Run
-    requires { ⌜ Sound (now list) (length (now table)) ⌝ }
-    requires { ⌜ Clear (now list) (now table) (now room) ⌝ }
-    requires { ⌜ Wide (now names) (now rows) ⌝ }
-    requires { ⌜ (start ≤ gatesIn (now list)) × (qcap ≤ maxColumns) ⌝ }
-    ensures { λ r. ⌜ Stops qcap tcap (now (list .entry)) start r (now (table .exit)) (now (names .exit)) (now (rows .exit)) (now (room .exit)) ⌝ }
+    requires { ⌜ Foldable (view plan) (now list) start (now table) (now names) (now rows) (now room) ⌝ }
+    ensures { λ r. ⌜ Stops (view plan) (now (list .entry)) start r (now (table .exit)) (now (names .exit)) (now (rows .exit)) (now (room .exit)) ⌝ }
 {
     let n = list.len() / GATE_WIDTH;
     let mut b = block::empty();
     let mut i = start;
     while i < n {
         let g = gate::read(list, i);
-        if !taking::takes(b, g, &*table, &*rows, &*room, qcap, tcap) {
+        if !taking::takes(b, g, &*table, &*rows, &*room, plan) {
             return Run { block: b, end: i };
         }
         b = absorb::absorb(b, g, &mut *table, &mut *names, &mut *rows, &mut *room);
@@ -72,10 +75,11 @@ fn close(
     held: &mut [u64],
     right: &mut [u64],
     steps: &mut [u32],
+    plan: Plan,
 ) -> Flushed
     requires { ⌜ Closable (now list) start end block (now out) m (now table) (now names) (now rows) (now room) ⌝ }
     requires { ⌜ Spared (now list) (now nodes) (now held) (now right) (now steps) ⌝ }
-    ensures { λ r. ⌜ Closes (now (list .entry)) start end (now (out .entry)) m (now (out .exit)) (now (table .exit)) r ⌝ }
+    ensures { λ r. ⌜ Closes (writerOf (view plan)) (now (list .entry)) start end (now (out .entry)) m (now (out .exit)) (now (table .exit)) r ⌝ }
 {
     let from = GATE_WIDTH * start;
     let to = GATE_WIDTH * end;
@@ -92,6 +96,7 @@ fn close(
         held,
         right,
         steps,
+        plan,
     )
 }
 
@@ -135,11 +140,9 @@ fn closed(s: Tally, end: usize, f: Flushed) -> Tally
 }
 
 // One piece: the block that starts at the next gate or, where none can, that gate copied.
-fn turn(
+fn piece(
     list: &[i32],
     s: Tally,
-    qcap: usize,
-    tcap: usize,
     table: &mut [u32],
     names: &mut [u32],
     rows: &mut [u64],
@@ -149,24 +152,19 @@ fn turn(
     out: &mut [i32],
     room: &mut [u64],
     steps: &mut [u32],
+    plan: Plan,
 ) -> Tally
-    requires { ⌜ Sound (now list) (length (now table)) ⌝ }
-    requires { ⌜ Clear (now list) (now table) (now room) ⌝ }
-    requires { ⌜ Wide (now names) (now rows) ⌝ }
-    requires { ⌜ Spared (now list) (now nodes) (now held) (now right) (now steps) ⌝ }
-    requires { ⌜ Stands qcap tcap (now list) s (now out) ⌝ }
-    requires { ⌜ (s .at < gatesIn (now list)) × ((qcap ≤ maxColumns) × (length (now out) ≡ length (now list))) ⌝ }
-    ensures { λ r. ⌜ (s .at < r .at) × (Stands qcap tcap (now (list .entry)) r (now (out .exit)) × ((q : ℕ) → getD (now (table .exit)) q 0 ≡ 0)) ⌝ }
+    requires { ⌜ Ready (writerOf (view plan)) (view plan) (now list) s (now table) (now names) (now rows) (now nodes) (now held) (now right) (now out) (now room) (now steps) ⌝ }
+    ensures { λ r. ⌜ Advances (writerOf (view plan)) (view plan) (now (list .entry)) s r (now (out .exit)) (now (table .exit)) ⌝ }
 {
     let run = fold_run(
         list,
         s.at,
-        qcap,
-        tcap,
         &mut *table,
         &mut *names,
         &mut *rows,
         &mut *room,
+        plan,
     );
     let end = run.end;
     if end == s.at {
@@ -188,29 +186,30 @@ fn turn(
         held,
         right,
         steps,
+        plan,
     );
     closed(s, end, f)
 }
 
-// The whole list, piece by piece. `table` has a place for each wire of the circuit.
+// The whole list, piece by piece. `table` has a place for each wire of the circuit. What is left in `room`, in `steps` and behind the result is the
+// caller's to clear.
 pub fn scan(
     list: &[i32],
-    qcap: usize,
-    tcap: usize,
     table: &mut [u32],
     out: &mut [i32],
     room: &mut [u64],
     steps: &mut [u32],
+    plan: Plan,
 ) -> Tally
-    requires { ⌜ Scannable qcap (now list) (now out) (now table) (now room) (now steps) ⌝ }
-    ensures { λ r. ⌜ Scans qcap tcap (now (list .entry)) (now (out .exit)) r ⌝ }
+    requires { ⌜ Scannable (view plan) (now list) (now out) (now table) (now room) (now steps) ⌝ }
+    ensures { λ r. ⌜ Scans (writerOf (view plan)) (view plan) (now (list .entry)) (now (out .exit)) (now (table .exit)) r ⌝ }
 {
     let n = list.len() / GATE_WIDTH;
-    let mut names = [0u32; 128];
-    let mut rows = [0u64; 256];
-    let mut nodes = [0u64; 645];
-    let mut held = [0u64; 256];
-    let mut right = [0u64; 256];
+    let mut names = [0u32; MAX_COLUMNS];
+    let mut rows = [0u64; MATRIX];
+    let mut nodes = [0u64; STACK];
+    let mut held = [0u64; MATRIX];
+    let mut right = [0u64; MATRIX];
     let mut s = Tally {
         at: 0,
         gates: 0,
@@ -218,11 +217,9 @@ pub fn scan(
         replaced: 0,
     };
     while s.at < n {
-        s = turn(
+        s = piece(
             list,
             s,
-            qcap,
-            tcap,
             &mut *table,
             &mut names,
             &mut rows,
@@ -232,6 +229,7 @@ pub fn scan(
             &mut *out,
             &mut *room,
             &mut *steps,
+            plan,
         );
     }
     s

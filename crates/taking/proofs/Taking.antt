@@ -18,6 +18,7 @@ use Rattle.rules.specs.Limits.{maxColumns}
 use Rattle.rules.specs.Gate.{second}
 use Rattle.rules.specs.Meaning.{flip, phase, cnot, cz, other, op}
 use Rattle.rules.specs.Fold.{Row, Term, Block, joined, rowOf, join, fresh, entered}
+use Rattle.rules.specs.Plan.{Plan}
 use Rattle.rules.specs.Scan.{hasTerm, roomy, takes}
 use Rattle.rules.proofs.Bits.{split, same}
 use Rattle.rows.specs.Rows.{rowsOf}
@@ -94,31 +95,31 @@ module _ {b : State.Block} {table names rows : List ℕ} (h : Rowed b table name
           ap (λ (rs : List Row). rowOf q rs .parity) (join-old q (rowsAt b names rows) j) ∙ ap (λ (r : Row). r .parity) (row-is h i q (k .0) (k .1))
           ∙ parity-old (b .wires) (suc i) i (getD (rowsOf rows) i 0) (rowsOf rows) refl refl
 
-  module _ (room : List ℕ) (qcap tcap : ℕ) where
-    takes-x : (q : ℕ) → leb (b .wires + new (getD table q 0)) qcap ≡ takes qcap tcap (flip q) (blockAt b names rows room)
+  module _ (room : List ℕ) (p : Plan) where
+    takes-x : (q : ℕ) → leb (b .wires + new (getD table q 0)) (p .qubits) ≡ takes p (flip q) (blockAt b names rows room)
     unfolding takes entered roomy
-    takes-x q = rw (fits-one q) (sym (and-true (leb (b .wires + new (getD table q 0)) qcap)))
+    takes-x q = rw (fits-one q) (sym (and-true (leb (b .wires + new (getD table q 0)) (p .qubits))))
 
-    takes-cnot : (c t : ℕ) → c ≢ t → leb (b .wires + new (getD table c 0) + new (getD table t 0)) qcap ≡ takes qcap tcap (cnot c t) (blockAt b names rows room)
+    takes-cnot : (c t : ℕ) → c ≢ t → leb (b .wires + new (getD table c 0) + new (getD table t 0)) (p .qubits) ≡ takes p (cnot c t) (blockAt b names rows room)
     unfolding takes entered roomy
-    takes-cnot c t n = rw (fits-two c t n) (sym (and-true (leb (b .wires + new (getD table c 0) + new (getD table t 0)) qcap)))
+    takes-cnot c t n = rw (fits-two c t n) (sym (and-true (leb (b .wires + new (getD table c 0) + new (getD table t 0)) (p .qubits))))
 
-    takes-cz : (c t : ℕ) → c ≢ t → leb (b .wires + new (getD table c 0) + new (getD table t 0)) qcap ≡ takes qcap tcap (cz c t) (blockAt b names rows room)
+    takes-cz : (c t : ℕ) → c ≢ t → leb (b .wires + new (getD table c 0) + new (getD table t 0)) (p .qubits) ≡ takes p (cz c t) (blockAt b names rows room)
     unfolding takes entered roomy
-    takes-cz c t n = rw (fits-two c t n) (sym (and-true (leb (b .wires + new (getD table c 0) + new (getD table t 0)) qcap)))
+    takes-cz c t n = rw (fits-two c t n) (sym (and-true (leb (b .wires + new (getD table c 0) + new (getD table t 0)) (p .qubits))))
 
-    pub takes-other : false ≡ takes qcap tcap other (blockAt b names rows room)
+    pub takes-other : false ≡ takes p other (blockAt b names rows room)
     unfolding takes
     takes-other = refl
 
     takes-phase : (k q : ℕ) → Folded (termsAt b room) b room
-        → takes qcap tcap (phase k q) (blockAt b names rows room)
-        ≡ (leb (b .wires + new (getD table q 0)) qcap && (hasTerm (parityAt (b .wires) (rowsOf rows) (getD table q 0)) (termsAt b room) || ltb (b .terms) tcap))
+        → takes p (phase k q) (blockAt b names rows room)
+        ≡ (leb (b .wires + new (getD table q 0)) (p .qubits) && (hasTerm (parityAt (b .wires) (rowsOf rows) (getD table q 0)) (termsAt b room) || ltb (b .terms) (p .terms)))
     unfolding takes entered roomy
     takes-phase k q f = rw (fits-one q, parity-is q, terms-length f)
 
     takes-two : (g : Gate) → 8 ≤ g .code → g .code ≤ 9 → g .first ≢ g .second
-        → leb (b .wires + new (getD table (g .first) 0) + new (getD table (g .second) 0)) qcap ≡ takes qcap tcap (op (gateOf g)) (blockAt b names rows room)
+        → leb (b .wires + new (getD table (g .first) 0) + new (getD table (g .second) 0)) (p .qubits) ≡ takes p (op (gateOf g)) (blockAt b names rows room)
     takes-two g l m n =
         same (g .code) 8
         (λ e t. rw (op-cnot g e) (takes-cnot (g .first) (g .second) n))
@@ -126,9 +127,9 @@ module _ {b : State.Block} {table names rows : List ℕ} (h : Rowed b table name
 
     -- the one test of a gate of the fragment, by the entries of its wires
     pub takes-is : (g : Gate) → 1 ≤ g .code → g .code ≤ 9 → (second (g .code) ≡ true → g .first ≢ g .second) → Folded (termsAt b room) b room
-        → takes qcap tcap (op (gateOf g)) (blockAt b names rows room)
-        ≡ (leb (b .wires + new (getD table (g .first) 0) + cond (leb 8 (g .code)) (new (getD table (lastWire g) 0)) 0) qcap
-        && (leb 8 (g .code) || (eqb (g .code) 1 || (hasTerm (parityAt (b .wires) (rowsOf rows) (getD table (g .first) 0)) (termsAt b room) || ltb (b .terms) tcap))))
+        → takes p (op (gateOf g)) (blockAt b names rows room)
+        ≡ (leb (b .wires + new (getD table (g .first) 0) + cond (leb 8 (g .code)) (new (getD table (lastWire g) 0)) 0) (p .qubits)
+        && (leb 8 (g .code) || (eqb (g .code) 1 || (hasTerm (parityAt (b .wires) (rowsOf rows) (getD table (g .first) 0)) (termsAt b room) || ltb (b .terms) (p .terms)))))
     takes-is g l m n f =
         split (leb 8 (g .code))
         (λ e. let k : 8 ≤ g .code = leb-true 8 (g .code) e in

@@ -4,6 +4,7 @@ use gate::Gate;
 use join::Place;
 use join::Wire;
 use parity::Parity;
+use plan::Plan;
 use rules::CODE_CNOT;
 use rules::CODE_CZ;
 use rules::CODE_X;
@@ -17,6 +18,7 @@ ghost use Rattle.rules.specs.Limits.{maxColumns};
 ghost use Rattle.rules.specs.Meaning.{op};
 ghost use Rattle.rules.specs.Scan as Scan;
 ghost use Rattle.parity.specs.View.{val};
+ghost use Rattle.plan.specs.View.{view};
 ghost use Rattle.gate.specs.Writing.{gateOf};
 ghost use Rattle.rows.specs.Rows.{rowsOf};
 ghost use Rattle.block.specs.View.{blockAt, Rowed};
@@ -63,17 +65,9 @@ fn parity_of(b: Block, q: Wire, table: &[u32], rows: &[u64]) -> Parity
 
 // Whether a gate can go on the block, whatever the names are that its rows bear. The table of terms is searched only for a rotation, and only if it
 // is full.
-pub fn takes(
-    b: Block,
-    g: Gate,
-    table: &[u32],
-    rows: &[u64],
-    room: &[u64],
-    qcap: usize,
-    tcap: usize,
-) -> bool
-    requires { ⌜ Askable b g (now table) (now rows) (now room) qcap ⌝ }
-    ensures { λ r. ⌜ ((names : List ℕ) → Rowed b (now (table .entry)) names (now (rows .entry)) → r ≡ Scan.takes qcap tcap (op (gateOf g)) (blockAt b names (now (rows .entry)) (now (room .entry)))) ⌝ }
+pub fn takes(b: Block, g: Gate, table: &[u32], rows: &[u64], room: &[u64], plan: Plan) -> bool
+    requires { ⌜ Askable b g (now table) (now rows) (now room) (plan .qubits) ⌝ }
+    ensures { λ r. ⌜ ((names : List ℕ) → Rowed b (now (table .entry)) names (now (rows .entry)) → r ≡ Scan.takes (view plan) (op (gateOf g)) (blockAt b names (now (rows .entry)) (now (room .entry)))) ⌝ }
 {
     let code = g.code;
     let first = Wire(g.first);
@@ -81,10 +75,10 @@ pub fn takes(
     if (code < CODE_X) | (CODE_CZ < code) {
         return false;
     }
-    if !fits(b, first, last_wire(g), two, table, qcap) {
+    if !fits(b, first, last_wire(g), two, table, plan.qubits) {
         return false;
     }
-    if two | ((code == CODE_X) | (b.terms < tcap)) {
+    if two | ((code == CODE_X) | (b.terms < plan.terms)) {
         return true;
     }
     let p = parity_of(b, first, table, rows);

@@ -5,58 +5,72 @@ use native.Mathlib.Omega.{arith}
 use borrow.Author.Needs.{needs}
 use lib.ListN.{length}
 use lib.Seq.{length-take-le}
-use Rattle.rules.specs.Limits.{width, maxGates, clampQubits, clampTerms}
-use Rattle.scan.specs.Scanning.{Scans}
+use Rattle.rules.specs.Limits.{width, maxGates}
+use Rattle.rules.specs.Pass.{writerOf}
+use Rattle.plan.specs.View.{view}
 use Rattle.cnot_min.proofs.Rooms.{scannable, shorter, low, counts-are, rewrites}
 use Rattle.cnot_min.proofs.rewrite.Statement.{statement}
 use Rattle.cnot_min.proofs.rewrite.Tie as tie
 
-scanned : (c : tie.After-scan) → Scans (clampQubits ((c .before .before .before .before .before .before .before .before .before) .args .qcap)) (clampTerms ((c .before .before .before .before .before .before .before .before .before) .args .tcap)) ((c .before .before .before .before .before .before .before .before .before) .args .list .now) (c .scan .last .1 .1 .1 .1 .0) (c .scan .result)
-scanned c = rw ((c .before .before .before .before .before .before) .clamp-qubits .ensures, (c .before .before .before .before .before) .clamp-terms .ensures) at (c .scan .ensures)
+-- ---- moments: the start, from the scan; the scan, from its counts; those, from the end
 
-long : (c : tie.After-scan) → width * c .scan .result .gates ≤ length (c .scan .last .1 .1 .1 .1 .0)
-long c = let a = (c .before .before .before .before .before .before .before .before .before) .args in shorter (a .qcap) (a .tcap) (a .wires) (a .list .now) (a .out .now) (a .terms .now) (a .steps .now) ((c .before .before .before .before .before .before .before .before .before) .pre) _ (c .scan .result) (scanned c) (c .scan .kept .1 .1 .1 .1 .0)
+abbrev begin : tie.After-scan → tie.Start
+begin c = c .before .before .before .before .before .before .before
+
+abbrev scanned : tie.After-struct-known → tie.After-scan
+scanned c = c .before .before .before .before .before .before .before
+
+abbrev counted : tie.After-slice-known6 → tie.After-count
+counted c = c .before .before .before .before .before .before .before .before .before .before .before
+
+-- ---- what holds then
+
+long : (c : tie.After-scan) → width * c .scan .result .gates ≤ length (c .scan .last .1 .1 .0)
+long c =
+    let s = begin c in
+    let a = s .args in
+    shorter (writerOf (view (a .plan))) (view (a .plan)) (a .wires) (a .list .now) (a .out .now) (a .terms .now) (a .steps .now) (s .pre) _ _ (c .scan .result) (c .scan .ensures) (c .scan .kept .1 .1 .0)
 
 limit : (c : tie.After-scan) → c .scan .result .gates ≤ maxGates
-limit c = let a = (c .before .before .before .before .before .before .before .before .before) .args in low (a .qcap) (a .tcap) (a .wires) (a .list .now) (a .out .now) (a .terms .now) (a .steps .now) ((c .before .before .before .before .before .before .before .before .before) .pre) _ (c .scan .result) (scanned c)
+limit c =
+    let s = begin c in
+    let a = s .args in
+    low (writerOf (view (a .plan))) (view (a .plan)) (a .wires) (a .list .now) (a .out .now) (a .terms .now) (a .steps .now) (s .pre) _ _ (c .scan .result) (c .scan .ensures)
 
-clamp-qubits-requires : tie.Need-clamp-qubits-requires
-clamp-qubits-requires c κs = search needs
-
-clamp-terms-requires : tie.Need-clamp-terms-requires
-clamp-terms-requires c κs = search needs
+-- ---- the needs
 
 array-borrow-prefix-table : tie.Need-array-borrow-prefix-table
 array-borrow-prefix-table c = search needs
 
 slice-aggregate-scan : tie.Need-slice-aggregate-scan
-slice-aggregate-scan c = sym (length-take-le _ _ ((c .before .before .before .before .before) .pre .sound .wires))
+slice-aggregate-scan c = sym (length-take-le _ _ ((c .before .before .before) .pre .checked .wires))
 
 scan-requires : tie.Need-scan-requires
 scan-requires c κs =
-    let p = (c .before .before .before .before .before .before .before .before) in
-    rw ((c .before .before .before .before .before) .clamp-qubits .ensures) (scannable (p .args .qcap) (p .args .wires) (p .args .list .now) (p .args .out .now) (p .args .terms .now) (p .args .steps .now) (p .pre))
+    let p = (c .before .before .before .before .before .before) in
+    let a = p .args in
+    scannable (view (a .plan)) (a .wires) (a .list .now) (a .out .now) (a .terms .now) (a .steps .now) (p .pre)
 
 mul-end : tie.Need-mul-end
-mul-end c = omega (arith, limit (c .before .before .before .before .before .before .before))
+mul-end c = omega (arith, limit (scanned c))
 
 slice-reshare-prefix-count : tie.Need-slice-reshare-prefix-count
-slice-reshare-prefix-count c = long (c .before .before .before .before .before .before .before)
+slice-reshare-prefix-count c = long (scanned c)
 
 slice-aggregate-count : tie.Need-slice-aggregate-count
-slice-aggregate-count c = sym (length-take-le _ _ (long (c .before .before .before .before .before .before .before .before)))
+slice-aggregate-count c = sym (length-take-le _ _ (long (scanned (c .before))))
 
 count-requires : tie.Need-count-requires
 count-requires c κs = search needs
 
 mul-signed : tie.Need-mul-signed
-mul-signed c = omega (arith, limit (c .before .before .before .before .before .before .before .before .before))
+mul-signed c = omega (arith, limit (scanned (c .before .before)))
 
 sub-signed : tie.Need-sub-signed
-sub-signed c = long (c .before .before .before .before .before .before .before .before .before)
+sub-signed c = long (scanned (c .before .before))
 
 part-signed-start : tie.Need-part-signed-start
-part-signed-start c = long (c .before .before .before .before .before .before .before .before .before)
+part-signed-start c = long (scanned (c .before .before))
 
 part-signed-end : tie.Need-part-signed-end
 part-signed-end c = search needs
@@ -81,20 +95,20 @@ same-length-3 c = search needs
 
 returns : tie.Need-returns
 returns c =
-    let d = (c .before .before .before .before .before .before .before .before .before .before .before .before .before .before .before .before .before .before .before .before) in
-    let s = (c .before .before .before .before .before .before .before .before .before .before .before .before .before .before .before .before .before .before .before .before .before .before .before .before .before .before .before .before .before) in
+    let n = counted c .count in
+    let d = scanned (counted c .before .before) in
+    let s = begin d in
     let a = s .args in
-    let n = (c .before .before .before .before .before .before .before .before .before .before .before) .count in
-    rewrites (a .qcap) (a .tcap) (a .wires) (a .list .now) (a .out .now) (a .terms .now) (a .steps .now) (s .pre) (d .scan .last .1 .1 .1 .1 .0) (d .scan .result) (scanned d) (n .result) _ (d .scan .last .1 .1 .1 .1 .1 .0) (d .scan .last .1 .1 .1 .1 .1 .1 .0) _ _
-    (counts-are (a .qcap) (a .tcap) (a .wires) (a .list .now) (a .out .now) (a .terms .now) (a .steps .now) (s .pre) (d .scan .last .1 .1 .1 .1 .0) (d .scan .result) (scanned d) (n .result) (n .ensures))
-    (d .scan .kept .1 .1 .1 .1 .0) ((c .before .before .before .before .before .before .before .before .before) .signed .ensures) ((c .before .before .before .before .before .before) .words .ensures) (d .scan .kept .1 .1 .1 .1 .1 .0) ((c .before .before) .halves .ensures) (d .scan .kept .1 .1 .1 .1 .1 .1 .0)
+    let t = d .scan in
+    let w = writerOf (view (a .plan)) in
+    rewrites w (view (a .plan)) (a .wires) (a .list .now) (a .out .now) (a .terms .now) (a .steps .now) (s .pre) (t .last .1 .1 .0) (t .last .1 .0) (t .result) (t .ensures) (n .result) _ (t .last .1 .1 .1 .0) (t .last .1 .1 .1 .1 .0) _ _
+    (counts-are w (view (a .plan)) (a .wires) (a .list .now) (a .out .now) (a .terms .now) (a .steps .now) (s .pre) (t .last .1 .1 .0) (t .last .1 .0) (t .result) (t .ensures) (n .result) (n .ensures))
+    (t .kept .1 .1 .0) ((c .before .before .before .before .before .before .before .before .before) .signed .ensures) ((c .before .before .before .before .before .before) .words .ensures) (t .kept .1 .1 .1 .0) ((c .before .before) .halves .ensures) (t .kept .1 .1 .1 .1 .0)
 
 pub rewrite-spec : {M : Type 1} → statement M
 rewrite-spec =
     tie.close
     (tie.spec
-    clamp-qubits-requires
-    clamp-terms-requires
     array-borrow-prefix-table
     slice-aggregate-scan
     scan-requires

@@ -3,6 +3,7 @@ use mathlib.Core.Path.{_≡_}
 use borrow.Author.Needs.{needs}
 use Rattle.rules.specs.Numbers.{gatesOf}
 use Rattle.rules.specs.Counts.{twos}
+use Rattle.plan.specs.View.{view}
 use Rattle.flush.proofs.Cutting.{asked, attempted}
 use Rattle.flush.proofs.attempt.Statement.{statement}
 use Rattle.flush.proofs.attempt.Tie as tie
@@ -43,7 +44,7 @@ same-length-6 : tie.Need-same-length-6
 same-length-6 c = search needs
 
 returns : tie.Need-returns
-returns c = let m = made c in attempted (begin (m .before) .pre) (two (m .before)) (m .synthesize .result) (m .synthesize .ensures)
+returns c = let m = made c in attempted (begin (m .before) .pre) (two (m .before)) (view (begin (m .before) .args .plan)) (m .synthesize .result) (m .synthesize .ensures)
 
 pub attempt-spec : {M : Type 1} → statement M
 attempt-spec =

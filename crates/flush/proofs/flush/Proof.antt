@@ -5,8 +5,9 @@ use native.Mathlib.Omega.{arith}
 use borrow.Author.Needs.{needs}
 use lib.ListN.{length}
 use lib.Seq.{length-take-le}
-use Rattle.rules.specs.Synth.{resynthesis}
+use Rattle.rules.specs.Pass.{writerOf}
 use Rattle.rules.proofs.Reading.{gates-length}
+use Rattle.plan.specs.View.{view}
 use Rattle.flush.proofs.Cutting.{Enough, enough, fitted}
 use Rattle.flush.proofs.flush.Statement.{statement}
 use Rattle.flush.proofs.flush.Tie as tie
@@ -117,7 +118,8 @@ returns : tie.Need-returns
 returns c =
     let d = c .before .before .before .before .before in
     let t = tried (d .before) in
-    record { settles = d .settle .ensures resynthesis (lent (t .before) .pre .0 .exact) (t .attempt .ensures); leaves = (c .before .before) .leave .ensures }
+    let s = lent (t .before) in
+    record { settles = d .settle .ensures (writerOf (view (s .args .plan))) (s .pre .0 .exact) (t .attempt .ensures); leaves = (c .before .before) .leave .ensures }
 
 pub flush-spec : {M : Type 1} → statement M
 flush-spec =

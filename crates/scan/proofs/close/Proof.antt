@@ -5,14 +5,26 @@ use native.Mathlib.Omega.{arith}
 use borrow.Author.Needs.{needs}
 use lib.ListN.{length}
 use Rattle.rules.specs.Limits.{width}
-use Rattle.rules.specs.Numbers.{numbersOf}
-use Rattle.rules.specs.Synth.{resynthesis}
-use Rattle.rules.specs.Scan.{chosen, replaces}
+use Rattle.rules.specs.Numbers.{gatesOf, numbersOf}
+use Rattle.rules.specs.Scan.{Writer, chosen, replaces}
+use Rattle.rules.specs.Pass.{writerOf}
 use Rattle.rules.proofs.Reading.{from-length}
+use Rattle.plan.specs.View.{view}
 use Rattle.scan.specs.Scanning.{run}
-use Rattle.scan.proofs.Writing.{part-gates, part-exact, put-behind, part-fits}
+use Rattle.scan.proofs.Writing.{part, part-gates, part-exact, put-behind, part-fits}
 use Rattle.scan.proofs.close.Statement.{statement}
 use Rattle.scan.proofs.close.Tie as tie
+
+-- the start, from where `flush` is called, and the moment behind it
+abbrev begin : tie.After-flush-arg8 → tie.Start
+begin c = c .before .before .before .before .before .before .before .before .before .before .before .before .before .before .before .before
+
+abbrev flushed : tie.After-slice-known12 → tie.After-flush
+flushed c = c .before .before .before .before .before .before .before .before .before .before .before .before .before
+
+-- the part of the list is the run
+gates : (s : tie.Start) → let a = s .args in gatesOf (part (a .list .now) (a .start) (a .end)) ≡ run (a .list .now) (a .start) (a .end)
+gates s = let a = s .args in let k = s .pre .0 in part-gates (a .list .now) (k .checked .exact) (a .start) (a .end) (k .onward) (k .inside)
 
 mul-from : tie.Need-mul-from
 mul-from c = search needs
@@ -55,23 +67,20 @@ part-flush-end-2 c = search needs
 
 flush-requires : tie.Need-flush-requires
 flush-requires c κs =
-    let s = (c .before .before .before .before .before .before .before .before .before .before .before .before .before .before .before .before) in
+    let s = begin c in
     let a = s .args in
     let k = s .pre .0 in
     let r = s .pre .1 in
-    let gates = part-gates (a .list .now) (k .sound .exact) (a .start) (a .end) (k .onward) (k .inside) in
-    let count = ap length gates ∙ from-length (a .list .now) (a .end - a .start) (a .start) in (
+    let count = ap length (gates s) ∙ from-length (a .list .now) (a .end - a .start) (a .start) in (
       record {
-        exact = part-exact (a .list .now) (k .sound .exact) (a .start) (a .end) (k .onward);
-        holds = rw gates (k .holds);
-        wires = k .sound .wires;
+        exact = part-exact (a .list .now) (k .checked .exact) (a .start) (a .end) (k .onward);
+        holds = rw (gates s) (k .holds);
+        wires = k .checked .wires;
       },
       record {
-        many = omega (arith, count, k .inside, k .sound .few);
+        many = omega (arith, count, k .inside, k .checked .few);
         fits = part-fits (a .list .now) (a .out .now) (a .start) (a .end) (a .m) (k .onward) (k .inside) (k .behind) (k .fits);
-        deep = r .deep;
-        held = r .held;
-        right = r .right;
+        work = r .work;
         long = omega (arith, count, k .inside, r .long);
       },
     )
@@ -99,17 +108,17 @@ same-length-7 c = search needs
 
 returns : tie.Need-returns
 returns c =
-    let s = (c .before .before .before .before .before .before .before .before .before .before .before .before .before .before .before .before .before .before .before .before .before .before .before .before .before .before .before .before .before .before) in
+    let f = flushed c .flush in
+    let s = begin (flushed c .before) in
     let a = s .args in
     let k = s .pre .0 in
-    let f = (c .before .before .before .before .before .before .before .before .before .before .before .before .before) .flush in
-    let gates = part-gates (a .list .now) (k .sound .exact) (a .start) (a .end) (k .onward) (k .inside) in
-    let count = f .ensures .settles .gates ∙ ap (λ gs. length (chosen resynthesis gs)) gates in
+    let write : Writer = writerOf (view (a .plan)) in
+    let count = f .ensures .settles .gates ∙ ap (λ gs. length (chosen write gs)) (gates s) in
     record {
-      text = put-behind (a .m) (f .result .gates) (width * a .m + (width * a .end - width * a .start) - width * a .m) (a .out .now) (f .last .1 .0) (chosen resynthesis (run (a .list .now) (a .start) (a .end))) (omega (arith, k .behind, k .onward, k .inside, k .fits)) (sym count)
-          (f .ensures .settles .text ∙ ap (λ gs. numbersOf (chosen resynthesis gs)) gates);
+      text = put-behind (a .m) (f .result .gates) (width * a .m + (width * a .end - width * a .start) - width * a .m) (a .out .now) (f .last .1 .0) (chosen write (run (a .list .now) (a .start) (a .end)))
+          (omega (arith, k .behind, k .onward, k .inside, k .fits)) (sym count) (f .ensures .settles .text ∙ ap (λ gs. numbersOf (chosen write gs)) (gates s));
       gates = count;
-      replaced = f .ensures .settles .replaced ∙ ap (replaces resynthesis) gates;
+      replaced = f .ensures .settles .replaced ∙ ap (replaces write) (gates s);
       clear = f .ensures .leaves .clear;
     }
 

@@ -1,85 +1,146 @@
 -- `scan::scan` meets its contract: what stands in the output, with what is made of the rest, is what is made of the list.
 use mathlib.Core.Path.{_≡_, refl, sym, _∙_}
+use mathlib.Core.List.{List}
 use Prim.Native.Nat.{ℕ, _-_, _*_, _≤_}
 use native.Mathlib.Omega.{arith}
 use borrow.Author.Needs.{needs}
-use lib.ListN.{length, getD}
+use lib.IntN.{ℤ}
+use lib.ListN.{length}
+use Rattle.rules.specs.Limits.{maxColumns}
+use Rattle.rules.specs.Plan.{Plan}
+use Rattle.rules.specs.Scan.{Writer}
+use Rattle.rules.specs.Pass.{writerOf}
 use Rattle.terms.proofs.Room.{room-same}
-use Rattle.scan.specs.Scanning.{Stands}
+use Rattle.plan.specs.View.{view}
+use Rattle.flush.specs.Choice.{stackLength}
+use Rattle.scan.specs.Scanning.{Unjoined, Stands}
+use Rattle.scan.specs.declared.Tally.{Tally}
 use Rattle.scan.proofs.Pieces.{begins, ends, rows-wide}
 use Rattle.scan.proofs.scan.Statement.{statement}
 use Rattle.scan.proofs.scan.Tie as tie
 
+-- what a round finds: the pieces so far, no wire joined, and each room as long as it was made or lent
+record Keeps (p : Plan) (l : List ℤ) (table₀ : List ℕ) (out₀ : List ℤ) (room₀ steps₀ table : List ℕ) (out : List ℤ) (room steps names rows nodes held right : List ℕ) (s : Tally) : Type 0 where
+  stands : Stands (writerOf p) p l s out
+  clear : Unjoined table
+  table-is : length table ≡ length table₀
+  out-is : length out ≡ length out₀
+  room-is : length room ≡ length room₀
+  steps-is : length steps ≡ length steps₀
+  names-is : length names ≡ maxColumns
+  rows-is : length rows ≡ 2 * maxColumns
+  nodes-is : length nodes ≡ stackLength
+  held-is : length held ≡ 2 * maxColumns
+  right-is : length right ≡ 2 * maxColumns
+
 abbrev Inv-loop : tie.InvT-loop
-Inv-loop list qcap tcap table₀ out₀ room₀ steps₀ n names₀ rows₀ nodes₀ held₀ right₀ s₀ table out room steps names rows nodes held right s =
-    (Stands qcap tcap list s out) × ((q : ℕ) → getD table q 0 ≡ 0)
-    × (length table ≡ length table₀) × (length out ≡ length out₀) × (length room ≡ length room₀) × (length steps ≡ length steps₀)
-    × (length names ≡ 128) × (length rows ≡ 256) × (length nodes ≡ 645) × (length held ≡ 256) × (length right ≡ 256)
+Inv-loop list table₀ out₀ room₀ steps₀ plan n names₀ rows₀ nodes₀ held₀ right₀ s₀ table out room steps names rows nodes held right s =
+    Keeps (view plan) list table₀ out₀ room₀ steps₀ table out room steps names rows nodes held right s
 
 abbrev μ-loop : tie.MeasureT-loop
-μ-loop list qcap tcap table₀ out₀ room₀ steps₀ n names₀ rows₀ nodes₀ held₀ right₀ s₀ table out room steps names rows nodes held right s = n - s .at
+μ-loop list table₀ out₀ room₀ steps₀ plan n names₀ rows₀ nodes₀ held₀ right₀ s₀ table out room steps names rows nodes held right s = n - s .at
+
+-- the round, from where the rooms are lent; the piece, from the round's end
+abbrev round : tie.After-names Inv-loop μ-loop → tie.At-loop Inv-loop μ-loop
+round c = c .before .before .before .before
+
+abbrev lent : tie.After-piece-arg4 Inv-loop μ-loop → tie.After-names Inv-loop μ-loop
+lent c = c .before .before .before .before .before .before .before
+
+abbrev made : tie.After-slice-known6 Inv-loop μ-loop → tie.After-piece Inv-loop μ-loop
+made c = c .before .before .before .before .before .before .before .before .before .before .before .before
 
 loop-holds : tie.Need-loop-holds Inv-loop μ-loop
-loop-holds c = (begins _ _ _ _ _ refl refl refl refl, (c .before .before .before) .pre .clear .clear, refl, refl, refl, refl, refl, refl, refl, refl, refl)
+loop-holds c = record {
+  stands = begins _ _ _ _ _ refl refl refl refl;
+  clear = (c .before .before .before) .pre .clear .clear;
+  table-is = refl;
+  out-is = refl;
+  room-is = refl;
+  steps-is = refl;
+  names-is = refl;
+  rows-is = refl;
+  nodes-is = refl;
+  held-is = refl;
+  right-is = refl;
+}
 
-slice-aggregate-turn : tie.Need-slice-aggregate-turn Inv-loop μ-loop
-slice-aggregate-turn c = sym ((c .before .before .before .before) .loop .inv .6)
+slice-aggregate-piece : tie.Need-slice-aggregate-piece Inv-loop μ-loop
+slice-aggregate-piece c = sym (round c .loop .inv .names-is)
 
-slice-aggregate-turn-2 : tie.Need-slice-aggregate-turn-2 Inv-loop μ-loop
-slice-aggregate-turn-2 c = sym ((c .before .before .before .before .before) .loop .inv .7)
+slice-aggregate-piece-2 : tie.Need-slice-aggregate-piece-2 Inv-loop μ-loop
+slice-aggregate-piece-2 c = sym (round (c .before) .loop .inv .rows-is)
 
-slice-aggregate-turn-3 : tie.Need-slice-aggregate-turn-3 Inv-loop μ-loop
-slice-aggregate-turn-3 c = sym ((c .before .before .before .before .before .before) .loop .inv .8)
+slice-aggregate-piece-3 : tie.Need-slice-aggregate-piece-3 Inv-loop μ-loop
+slice-aggregate-piece-3 c = sym (round (c .before .before) .loop .inv .nodes-is)
 
-slice-aggregate-turn-4 : tie.Need-slice-aggregate-turn-4 Inv-loop μ-loop
-slice-aggregate-turn-4 c = sym ((c .before .before .before .before .before .before .before) .loop .inv .9)
+slice-aggregate-piece-4 : tie.Need-slice-aggregate-piece-4 Inv-loop μ-loop
+slice-aggregate-piece-4 c = sym (round (c .before .before .before) .loop .inv .held-is)
 
-slice-aggregate-turn-5 : tie.Need-slice-aggregate-turn-5 Inv-loop μ-loop
-slice-aggregate-turn-5 c = sym ((c .before .before .before .before .before .before .before .before) .loop .inv .10)
+slice-aggregate-piece-5 : tie.Need-slice-aggregate-piece-5 Inv-loop μ-loop
+slice-aggregate-piece-5 c = sym (round (c .before .before .before .before) .loop .inv .right-is)
 
-turn-requires : tie.Need-turn-requires Inv-loop μ-loop
-turn-requires c κs =
-    let p = (c .before .before .before .before .before .before .before .before .before .before .before .before .before .before .before) .pre in
-    let a = (c .before .before .before .before .before .before .before .before .before .before .before .before .before .before .before) .args in
-    let l = (c .before .before .before .before .before .before .before .before .before .before .before) .loop in
-    let i = l .inv in (
-      rw (i .2) (p .sound),
-      (
-        record { clear = i .1; terms = omega (arith, p .clear .terms, room-same (l .room) (a .room .now) (i .4)) },
-        (
-          record { named = omega (arith, i .6); rowed = rows-wide (l .rows) (i .7) },
-          (
-            record { deep = omega (arith, i .8); held = rows-wide (l .held) (i .9); right = rows-wide (l .right) (i .10); long = omega (arith, i .5, p .long) },
-            (i .0, (omega (arith, (c .before .before .before .before .before .before .before .before .before) .if1 .taken), (p .capped, i .3 ∙ p .fits))),
-          ),
-        ),
-      ),
-    )
+piece-requires : tie.Need-piece-requires Inv-loop μ-loop
+piece-requires c κs =
+    let r = round (lent c) in
+    let s = r .before .before .before .before in
+    let p = s .pre in
+    let l = r .loop in
+    let i = l .inv in
+    let more = (lent c .before .before) .if1 .taken in
+    record {
+      foldable = record {
+        checked = rw (i .table-is) (p .checked);
+        capped = p .capped;
+        inside = i .stands .inside;
+        clear = record { clear = i .clear; terms = omega (arith, p .clear .terms, room-same (l .room) (s .args .room .now) (i .room-is)) };
+        wide = record { named = omega (arith, i .names-is); rowed = rows-wide (l .rows) (i .rows-is) };
+      };
+      spared = record {
+        work = record { deep = omega (arith, i .nodes-is); held = rows-wide (l .held) (i .held-is); right = rows-wide (l .right) (i .right-is) };
+        long = omega (arith, i .steps-is, p .long);
+      };
+      stands = i .stands;
+      more = omega (arith, more);
+      fits = i .out-is ∙ p .fits;
+    }
 
 loop-less : tie.Need-loop-less Inv-loop μ-loop
-loop-less c = omega (arith, (c .before .before .before .before .before .before .before .before .before .before .before .before) .turn .ensures .0, (c .before .before .before .before .before .before .before .before .before .before .before .before) .turn .ensures .1 .0 .inside)
+loop-less c = let t = made c .piece in omega (arith, t .ensures .onward, t .ensures .stands .inside)
 
 loop-again : tie.Need-loop-again Inv-loop μ-loop
 loop-again c =
-    let t = (c .before .before .before .before .before .before .before .before .before .before .before .before) .turn in
-    let i = (c .before .before .before .before .before .before .before .before .before .before .before .before .before .before .before .before .before .before .before .before .before .before .before .before) .loop .inv in
-    let k = t .kept .1 .1 .1 .1 in
-    (t .ensures .1 .0, t .ensures .1 .1, k .0 ∙ i .2, k .1 .1 .1 .1 .1 .1 .0 ∙ i .3, k .1 .1 .1 .1 .1 .1 .1 .0 ∙ i .4, k .1 .1 .1 .1 .1 .1 .1 .1 .0 ∙ i .5, k .1 .0 ∙ i .6, k .1 .1 .0 ∙ i .7, k .1 .1 .1 .0 ∙ i .8, k .1 .1 .1 .1 .0 ∙ i .9, k .1 .1 .1 .1 .1 .0 ∙ i .10)
+    let t = made c .piece in
+    let i = round (lent (made c .before)) .loop .inv in
+    let k = t .kept .1 .1 in
+    record {
+      stands = t .ensures .stands;
+      clear = t .ensures .clear;
+      table-is = k .0 ∙ i .table-is;
+      names-is = k .1 .0 ∙ i .names-is;
+      rows-is = k .1 .1 .0 ∙ i .rows-is;
+      nodes-is = k .1 .1 .1 .0 ∙ i .nodes-is;
+      held-is = k .1 .1 .1 .1 .0 ∙ i .held-is;
+      right-is = k .1 .1 .1 .1 .1 .0 ∙ i .right-is;
+      out-is = k .1 .1 .1 .1 .1 .1 .0 ∙ i .out-is;
+      room-is = k .1 .1 .1 .1 .1 .1 .1 .0 ∙ i .room-is;
+      steps-is = k .1 .1 .1 .1 .1 .1 .1 .1 .0 ∙ i .steps-is;
+    }
 
 same-length : tie.Need-same-length Inv-loop μ-loop
-same-length c = (c .before .before) .loop .inv .2
+same-length c = (c .before .before) .loop .inv .table-is
 
 same-length-2 : tie.Need-same-length-2 Inv-loop μ-loop
-same-length-2 c = (c .before .before) .loop .inv .3
+same-length-2 c = (c .before .before) .loop .inv .out-is
 
 same-length-3 : tie.Need-same-length-3 Inv-loop μ-loop
-same-length-3 c = (c .before .before) .loop .inv .4
+same-length-3 c = (c .before .before) .loop .inv .room-is
 
 same-length-4 : tie.Need-same-length-4 Inv-loop μ-loop
-same-length-4 c = (c .before .before) .loop .inv .5
+same-length-4 c = (c .before .before) .loop .inv .steps-is
 
 returns : tie.Need-returns Inv-loop μ-loop
-returns c = ends _ _ _ _ _ ((c .before .before) .loop .inv .0) (omega (arith, c .if1 .left))
+returns c = let i = (c .before .before) .loop .inv in ends _ _ _ _ _ _ (i .stands) (i .clear) (omega (arith, c .if1 .left))
 
 pub scan-spec : {M : Type 1} → statement M
 scan-spec =
@@ -88,12 +149,12 @@ scan-spec =
     Inv-loop
     μ-loop
     loop-holds
-    slice-aggregate-turn
-    slice-aggregate-turn-2
-    slice-aggregate-turn-3
-    slice-aggregate-turn-4
-    slice-aggregate-turn-5
-    turn-requires
+    slice-aggregate-piece
+    slice-aggregate-piece-2
+    slice-aggregate-piece-3
+    slice-aggregate-piece-4
+    slice-aggregate-piece-5
+    piece-requires
     loop-less
     loop-again
     same-length

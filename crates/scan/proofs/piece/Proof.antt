@@ -1,0 +1,155 @@
+-- `scan::piece` meets its contract: the run from the next gate on is empty, and the gate is copied, or it is a block.
+use mathlib.Core.Path.{_≡_, _∙_}
+use Prim.Native.Nat.{_+_, _≤_, _<_}
+use native.Mathlib.Omega.{arith}
+use borrow.Author.Needs.{needs}
+use Rattle.rules.specs.Pass.{writerOf}
+use Rattle.plan.specs.View.{view}
+use Rattle.scan.proofs.Pieces.{low, chosen-run, copied-stands, closed-stands}
+use Rattle.scan.proofs.piece.Statement.{statement}
+use Rattle.scan.proofs.piece.Tie as tie
+
+-- the start, from where the run is folded; the folded run, from the three calls behind it
+abbrev begin : tie.After-fold-run-arg4 → tie.Start
+begin c = c .before .before .before .before .before .before .before .before .before .before .before .before
+
+abbrev to-copy : tie.After-copy-gate-arg → tie.After-fold-run
+to-copy c = c .before .before .before .before .before .before .before .before .before .before .before
+
+abbrev to-close : tie.After-close-arg9 → tie.After-fold-run
+to-close c = c .before .before .before .before .before .before .before .before .before .before .before .before .before .before .before .before .before .before .before
+
+-- the gate copied, and the block closed, from where the counts are told
+abbrev copied : tie.After-out → tie.After-copy-gate
+copied c = c .before
+
+abbrev closed : tie.After-slice-known18 → tie.After-close
+closed c = c .before .before .before .before .before .before .before .before .before .before .before .before .before
+
+-- the counts, from the end
+abbrev counted : tie.After-closed → tie.After-closed
+counted c = c
+
+fold-run-requires : tie.Need-fold-run-requires
+fold-run-requires c κs = begin c .pre .foldable
+
+copy-gate-requires : tie.Need-copy-gate-requires
+copy-gate-requires c κs =
+    let p = begin (to-copy c .before) .pre in
+    let e = (c .before) .if1 .taken in
+    record { exact = p .foldable .checked .exact; inside = omega (arith, e, p .more); behind = omega (arith, e, p .stands .behind); fits = p .fits }
+
+copied-requires : tie.Need-copied-requires
+copied-requires c κs = let p = begin (to-copy (copied c .before) .before) .pre in low (p .foldable .checked) (p .stands)
+
+same-length : tie.Need-same-length
+same-length c = search needs
+
+same-length-2 : tie.Need-same-length-2
+same-length-2 c = search needs
+
+same-length-3 : tie.Need-same-length-3
+same-length-3 c = search needs
+
+same-length-4 : tie.Need-same-length-4
+same-length-4 c = search needs
+
+same-length-5 : tie.Need-same-length-5
+same-length-5 c = search needs
+
+returns : tie.Need-returns
+returns c =
+    let g = copied (c .before) in
+    let f = to-copy (g .before) in
+    let s = begin (f .before) in
+    let a = s .args in
+    copied-stands (writerOf (view (a .plan))) (view (a .plan)) (a .list .now) (a .s) (c .copied .result) (a .out .now) _ (f .fold-run .result) (s .pre .stands) (f .fold-run .ensures)
+    ((g .before .before) .if1 .taken) (s .pre .more) (g .copy-gate .ensures) (c .copied .ensures)
+
+close-requires : tie.Need-close-requires
+close-requires c κs =
+    let f = to-close c .fold-run in
+    let p = begin (to-close c .before) .pre in (
+      record {
+        checked = rw (f .kept .1 .1 .0) (p .foldable .checked);
+        onward = f .ensures .onward;
+        inside = f .ensures .inside;
+        behind = p .stands .behind;
+        fits = p .fits;
+        holds = f .ensures .holds;
+      },
+      p .spared,
+    )
+
+closed-requires : tie.Need-closed-requires
+closed-requires c κs =
+    let d = closed c in
+    let f = to-close (d .before) in
+    let s = begin (f .before) in
+    let a = s .args in
+    let p = s .pre in
+    (low (p .foldable .checked) (p .stands), omega (arith, d .close .ensures .gates, chosen-run (writerOf (view (a .plan))) (view (a .plan)) (a .list .now) (a .s .at) (f .fold-run .result .end), f .fold-run .ensures .inside, p .foldable .checked .few))
+
+-- the rooms that both calls had: as long as they were
+same-length-6 : tie.Need-same-length-6
+same-length-6 c = let d = closed (counted c .before) in d .close .kept .1 .1 .1 .1 .1 .1 .0 ∙ to-close (d .before) .fold-run .kept .1 .1 .0
+
+same-length-7 : tie.Need-same-length-7
+same-length-7 c = to-close (closed (counted c .before) .before) .fold-run .kept .1 .1 .1 .0
+
+same-length-8 : tie.Need-same-length-8
+same-length-8 c = to-close (closed (counted c .before) .before) .fold-run .kept .1 .1 .1 .1 .0
+
+same-length-9 : tie.Need-same-length-9
+same-length-9 c = search needs
+
+same-length-10 : tie.Need-same-length-10
+same-length-10 c = search needs
+
+same-length-11 : tie.Need-same-length-11
+same-length-11 c = search needs
+
+same-length-12 : tie.Need-same-length-12
+same-length-12 c = search needs
+
+same-length-13 : tie.Need-same-length-13
+same-length-13 c = search needs
+
+same-length-14 : tie.Need-same-length-14
+same-length-14 c = search needs
+
+returns-2 : tie.Need-returns-2
+returns-2 c =
+    let n = counted c in
+    let d = closed (n .before) in
+    let f = to-close (d .before) in
+    let s = begin (f .before) in
+    let a = s .args in
+    closed-stands (writerOf (view (a .plan))) (view (a .plan)) (a .list .now) (a .s) (n .closed .result) (a .out .now) _ (f .fold-run .result) (s .pre .stands) (f .fold-run .ensures)
+    (omega (arith, f .fold-run .ensures .onward, (d .before .before .before .before .before .before .before .before .before .before) .if1 .left)) (d .close .ensures) (n .closed .ensures)
+
+pub piece-spec : {M : Type 1} → statement M
+piece-spec =
+    tie.close
+    (tie.spec
+    fold-run-requires
+    copy-gate-requires
+    copied-requires
+    same-length
+    same-length-2
+    same-length-3
+    same-length-4
+    same-length-5
+    returns
+    close-requires
+    closed-requires
+    same-length-6
+    same-length-7
+    same-length-8
+    same-length-9
+    same-length-10
+    same-length-11
+    same-length-12
+    same-length-13
+    same-length-14
+    returns-2)
