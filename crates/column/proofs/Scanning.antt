@@ -13,9 +13,10 @@ use borrow.Author.Tests.{ne-eqb, leb-true, leb-false}
 use Rattle.rules.specs.Bit.{bit}
 use Rattle.rules.specs.Fold.{Term}
 use Rattle.rules.specs.Walk.{side, score, beats, best}
+use Rattle.rules.specs.Shortcuts.{any}
 use Rattle.rules.proofs.Bits.{split, same, bit-zero}
 use Rattle.rules.proofs.Machine.{length-sides}
-use Rattle.rules.proofs.Choosing.{score-ones, best-take, best-skips, any}
+use Rattle.rules.proofs.Choosing.{score-ones, best-take, best-skips}
 use Rattle.parity.specs.Columns.{clearLowest, Lowest}
 use Rattle.parity.proofs.Laws.{bit-clear, bit-high}
 use Rattle.terms.specs.Terms.{noTerm}

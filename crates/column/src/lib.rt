@@ -7,7 +7,7 @@ ghost use lib.ListN.{length, getD};
 ghost use lib.Dec.{eqb};
 ghost use Rattle.rules.specs.Bit.{bit};
 ghost use Rattle.rules.specs.Walk.{side, beats};
-ghost use Rattle.rules.proofs.Choosing.{any};
+ghost use Rattle.rules.specs.Shortcuts.{any};
 ghost use Rattle.parity.specs.View.{val};
 ghost use Rattle.terms.specs.Terms.{termsOf, noTerm};
 ghost use Rattle.rows.specs.Rows.{rowsOf};

@@ -17,37 +17,15 @@ use lib.Pow.{pow-lt}
 use borrow.Author.Tests.{ne-eqb}
 use Rattle.rules.specs.Bit.{_⊕_, bit, xor}
 use Rattle.rules.specs.Fold.{Term}
-use Rattle.rules.specs.Walk.{Step, cn, rot, Aim, free, on, owes, Node, best, crossed, crossTerms, turns, leaf, aimWith}
+use Rattle.rules.specs.Walk.{Step, cn, rot, Aim, free, on, owes, Node, best, crossed, crossTerms, turns, leaf, aimWith, node}
+use Rattle.rules.specs.Left.{pay, tally, weight, left, Leads, Stairs}
+use Rattle.rules.specs.Shortcuts.{any, downs, run, flipped, flipTerms}
 use Rattle.rules.proofs.Bits.{split, same, bit-xor, bit-zero, bits-le, xor-lt, none-set, ⊕-false, ⊕-self, ⊕-mid}
 use Rattle.rules.proofs.Masks.{bit-rest, bit-crossed}
-use Rattle.rules.proofs.Walking.{crossAll, pay, paid, tree, tally, tally-none, tally-rest, rest-off, rest-other, rest-in}
-use Rattle.rules.proofs.Machine.{node, crossStack}
-use Rattle.rules.proofs.Depth.{Stairs}
-use Rattle.rules.proofs.Choosing.{every, any, agreed-score, best-agreed}
-use Rattle.rules.proofs.Turning.{weight, left, Leads}
+use Rattle.rules.proofs.Walking.{crossAll, paid, tree, tally-none, tally-rest, rest-off, rest-other, rest-in}
+use Rattle.rules.proofs.Machine.{crossStack}
+use Rattle.rules.proofs.Choosing.{every, agreed-score, best-agreed}
 use Rattle.rules.proofs.Narrowing.{self-lt, highest, tree-pay, tree-every, stairs-crossStack, weight-crossStack, left-tree}
-
--- the CNOTs to t from the columns of a mask below n, from the highest down
-unfoldable pub downs : ℕ → ℕ → ℕ → List Step
-unfolding bit
-downs zero t mask = []
-downs (suc n) t mask = let r = downs n t mask in cond (bit mask n) (cn n t ∷ r) r
-
--- and then the rotation of t
-unfoldable pub run : ℕ → ℕ → ℕ → List Term → List Step
-unfolding downs turns
-run n t mask ts = downs n t mask ++ leaf (on t) ts
-
--- all these CNOTs at once: a waiting parity with bit t has the mask's columns flipped
-unfoldable pub flipped : ℕ → ℕ → ℕ → ℕ
-unfolding bit
-flipped mask t v = cond (bit v t) (xor v mask) v
-
--- and so has every term of a set
-unfoldable pub flipTerms : ℕ → ℕ → List Term → List Term
-unfolding flipped
-flipTerms mask t [] = []
-flipTerms mask t (e ∷ es) = record { parity = flipped mask t (e .parity); turn = e .turn } ∷ flipTerms mask t es
 
 -- ---- the CNOTs, by the highest column
 

@@ -11,6 +11,7 @@ use borrow.Author.Tests.{le-leb, lt-leb}
 use Rattle.rules.specs.Bit.{bit}
 use Rattle.rules.specs.Fold.{Term}
 use Rattle.rules.specs.Walk.{side, score, beats, best}
+use Rattle.rules.specs.Shortcuts.{any}
 use Rattle.rules.proofs.Bits.{split, same}
 use Rattle.rules.proofs.Machine.{length-sides}
 
@@ -81,11 +82,6 @@ unfoldable pub every : ℕ → List Term → Bool
 unfolding bit
 every c [] = true
 every c (t ∷ ts) = bit (t .parity) c && every c ts
-
-unfoldable pub any : ℕ → List Term → Bool
-unfolding bit
-any c [] = false
-any c (t ∷ ts) = bit (t .parity) c || any c ts
 
 pub every-sides : (c : ℕ) (ts : List Term) → every c ts ≡ true → length (side false c ts) ≡ 0
 unfolding every side

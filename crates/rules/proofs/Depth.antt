@@ -7,16 +7,10 @@ use lib.ListN.{length}
 use lib.Pow.{pow-lt, ones-lt}
 use Rattle.rules.specs.Bit.{bit}
 use Rattle.rules.specs.Fold.{Term}
-use Rattle.rules.specs.Walk.{Aim, free, on, owes, Node, best, isNone, crossNodes, turn, openNode}
+use Rattle.rules.specs.Walk.{Aim, free, on, owes, Node, best, isNone, crossNodes, visit, openNode, node}
+use Rattle.rules.specs.Left.{tally, Stairs}
 use Rattle.rules.proofs.Bits.{xor-lt, split}
-use Rattle.rules.proofs.Walking.{tally, tally-le, tally-rest, best-ok}
-use Rattle.rules.proofs.Machine.{node}
-
--- each node's candidates, with the nodes from it down, are at most n + 1
-unfoldable pub Stairs : ℕ → List Node → Type 0
-unfolding tally bit
-Stairs n [] = Unit {0}
-Stairs n (d ∷ st) = ((d .cands < 2 ^ n) × (tally n (bit (d .cands)) + length st ≤ n)) × Stairs n st
+use Rattle.rules.proofs.Walking.{tally-le, tally-rest, best-ok}
 
 pub stairs-depth : (n : ℕ) (st : List Node) → Stairs n st → length st ≤ n + 1
 unfolding Stairs
@@ -44,12 +38,12 @@ stairs-open n cs a ts st h =
     let t = tally-rest n cs c (b .0) (b .1) in
     rw e ((l, omega (arith, h .0 .1)), ((l, omega (arith, h .0 .1)), h .1)))
 
-pub stairs-turn : (n cs : ℕ) (a : Aim) (ts : List Term) (st : List Node) → Stairs n (node cs a ts ∷ st) → Stairs n (turn n (node cs a ts) st .stack)
-unfolding Stairs turn
-stairs-turn n cs a [] st h = h .1
-stairs-turn n cs free (e ∷ es) st h = stairs-open n cs free (e ∷ es) st h
-stairs-turn n cs (on t) (e ∷ es) st h = stairs-open n cs (on t) (e ∷ es) st h
-stairs-turn n cs (owes p t) (e ∷ es) st h = ((h .0 .0, omega (arith, length-crossNodes p t st, h .0 .1)), stairs-cross n p t st (h .1))
+pub stairs-visit : (n cs : ℕ) (a : Aim) (ts : List Term) (st : List Node) → Stairs n (node cs a ts ∷ st) → Stairs n (visit n (node cs a ts) st .stack)
+unfolding Stairs visit
+stairs-visit n cs a [] st h = h .1
+stairs-visit n cs free (e ∷ es) st h = stairs-open n cs free (e ∷ es) st h
+stairs-visit n cs (on t) (e ∷ es) st h = stairs-open n cs (on t) (e ∷ es) st h
+stairs-visit n cs (owes p t) (e ∷ es) st h = ((h .0 .0, omega (arith, length-crossNodes p t st, h .0 .1)), stairs-cross n p t st (h .1))
 
 pub stairs-first : (n : ℕ) (ts : List Term) → Stairs n (node (2 ^ n - 1) free ts ∷ [])
 unfolding Stairs

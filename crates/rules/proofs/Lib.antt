@@ -21,7 +21,7 @@ pub mod Spending
 pub mod Reading
 pub mod Accepting
 pub mod Output
-pub mod Turning
+pub mod Visiting
 pub mod Choosing
 pub mod Narrowing
 pub mod Chain

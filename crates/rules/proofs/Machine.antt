@@ -9,12 +9,10 @@ use lib.ListN.{length}
 use lib.Pow.{pow-lt, ones-lt}
 use Rattle.rules.specs.Bit.{bit, xor}
 use Rattle.rules.specs.Fold.{Term}
-use Rattle.rules.specs.Walk.{Step, cn, rot, Aim, free, on, owes, Node, side, best, crossTerms, crossNodes, leaf, aimWith, isNone, turn, walk, nonzero, enough, phaseWalk}
+use Rattle.rules.specs.Walk.{Step, cn, rot, Aim, free, on, owes, Node, side, best, crossTerms, crossNodes, leaf, aimWith, isNone, visit, walk, nonzero, enough, phaseWalk, Settled, node}
+use Rattle.rules.specs.Left.{pay, tally}
 use Rattle.rules.proofs.Bits.{xor-lt, split, none-set}
-use Rattle.rules.proofs.Walking.{crossAll, pay, paid, tree, tally, tally-none, tally-le, tally-rest, best-ok, Settled, settled-paid}
-
-abbrev pub node : ℕ → Aim → List Term → Node
-node cs a ts = record { cands = cs; aim = a; set = ts }
+use Rattle.rules.proofs.Walking.{crossAll, paid, tree, tally-none, tally-le, tally-rest, best-ok, settled-paid}
 
 -- every CNOT of some steps, on the waiting nodes
 unfoldable pub crossStack : List Step → List Node → List Node
@@ -61,18 +59,18 @@ fuel : (n m f : ℕ) (st : List Node) → m ≡ f → walk n m st ≡ walk n f s
 fuel n m f st e = ap (λ (z : ℕ). walk n z st) e
 
 empty-runs : (n cs : ℕ) (a : Aim) → Runs n cs a [] 1 []
-unfolding Runs walk turn crossStack
+unfolding Runs walk visit crossStack
 empty-runs n cs a f st = fuel n (1 + f) (suc f) (node cs a [] ∷ st) (omega arith)
 
 leaf-runs : (n cs : ℕ) (a : Aim) (e : Term) (es : List Term) → Settled a → isNone cs ≡ true → Runs n cs a (e ∷ es) 1 (leaf a (e ∷ es))
-unfolding Runs walk turn crossStack
+unfolding Runs walk visit crossStack
 leaf-runs n cs free e es s q f st = fuel n (1 + f) (suc f) (node cs free (e ∷ es) ∷ st) (omega arith) ∙ rw q
 leaf-runs n cs (on t) e es s q f st = fuel n (1 + f) (suc f) (node cs (on t) (e ∷ es) ∷ st) (omega arith) ∙ rw q
 leaf-runs n cs (owes p t) e es s q f st = absurd s
 
 pay-runs : (n cs : ℕ) (a : Aim) (e : Term) (es : List Term) (m : ℕ) (ss : List Step)
     → Runs n cs (paid a) (e ∷ es) m ss → Runs n cs a (e ∷ es) (length (pay a) + m) (pay a ++ ss)
-unfolding Runs walk turn crossStack
+unfolding Runs walk visit crossStack
 pay-runs n cs free e es m ss h f st = fuel n (zero + m + f) (m + f) (node cs free (e ∷ es) ∷ st) (omega arith) ∙ h f st
 pay-runs n cs (on t) e es m ss h f st = fuel n (zero + m + f) (m + f) (node cs (on t) (e ∷ es) ∷ st) (omega arith) ∙ h f st
 pay-runs n cs (owes p t) e es m ss h f st =
@@ -83,7 +81,7 @@ open-step : (n cs : ℕ) (a : Aim) (e : Term) (es : List Term) (f : ℕ) (st : L
     → walk n (suc f) (node cs a (e ∷ es) ∷ st)
     ≡ walk n f (node (xor cs (2 ^ best n cs (e ∷ es) .0)) a (side false (best n cs (e ∷ es) .0) (e ∷ es))
     ∷ node (xor cs (2 ^ best n cs (e ∷ es) .0)) (aimWith a (best n cs (e ∷ es) .0)) (side true (best n cs (e ∷ es) .0) (e ∷ es)) ∷ st)
-unfolding walk turn
+unfolding walk visit
 open-step n cs free e es f st s q = rw q
 open-step n cs (on t) e es f st s q = rw q
 open-step n cs (owes p t) e es f st s q = absurd s

@@ -15,14 +15,16 @@ use lib.Pow.{pow-lt}
 use borrow.Author.Tests.{eqb-true, eqb-false}
 use Rattle.rules.specs.Bit.{_⊕_, bit, xor}
 use Rattle.rules.specs.Fold.{Term}
-use Rattle.rules.specs.Walk.{Step, cn, rot, Aim, free, on, owes, Node, side, score, best, crossTerms, crossNodes, aimWith, isNone}
+use Rattle.rules.specs.Walk.{Step, cn, rot, Aim, free, on, owes, Node, side, score, best, crossTerms, crossNodes, aimWith, isNone, node}
+use Rattle.rules.specs.Left.{pay, tally, weight, left, Leads, Stairs}
+use Rattle.rules.specs.Shortcuts.{any}
 use Rattle.rules.proofs.Bits.{split, same, and-left, and-right, bit-zero, bits-le, xor-lt, ⊕-false}
 use Rattle.rules.proofs.Masks.{bit-rest}
-use Rattle.rules.proofs.Walking.{crossAll, pay, paid, tree, tally, tally-le, tally-rest}
-use Rattle.rules.proofs.Machine.{node, crossStack, cross-empty, ticks, Runs, tree-runs, length-sides}
-use Rattle.rules.proofs.Depth.{Stairs, stairs-cross}
-use Rattle.rules.proofs.Choosing.{every, any, every-sides, any-sides, score-le, split-score, best-agreed}
-use Rattle.rules.proofs.Turning.{weight, weight-cross, walk-idle, left, left-none, Leads}
+use Rattle.rules.proofs.Walking.{crossAll, paid, tree, tally-le, tally-rest}
+use Rattle.rules.proofs.Machine.{crossStack, cross-empty, ticks, Runs, tree-runs, length-sides}
+use Rattle.rules.proofs.Depth.{stairs-cross}
+use Rattle.rules.proofs.Choosing.{every, every-sides, any-sides, score-le, split-score, best-agreed}
+use Rattle.rules.proofs.Visiting.{weight-cross, walk-idle, left-none}
 
 -- live has the candidates that some term has
 abbrev pub Seen : ℕ → ℕ → List Term → Type 0

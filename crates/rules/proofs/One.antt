@@ -10,10 +10,11 @@ use lib.Pow.{pow-lt}
 use borrow.Author.Tests.{ne-eqb}
 use Rattle.rules.specs.Bit.{_⊕_, bit, xor}
 use Rattle.rules.specs.Fold.{Term}
-use Rattle.rules.specs.Walk.{Step, cn, rot, Aim, free, on, owes, side, best, crossed, crossTerms, turns, leaf, aimWith, isNone}
+use Rattle.rules.specs.Walk.{Step, cn, rot, Aim, free, on, owes, side, best, crossed, crossTerms, turns, leaf, aimWith, isNone, Settled}
+use Rattle.rules.specs.Left.{pay, tally}
 use Rattle.rules.proofs.Bits.{xor-lt, split, same, none-set, bit-zero, ⊕-false}
 use Rattle.rules.proofs.Masks.{mask, bit-rest, bit-crossed}
-use Rattle.rules.proofs.Walking.{crossAll, pay, paid, ifAny, tree, tally, tally-none, tally-rest, best-ok, Within, All, all-cross, Settled, settled-paid, ctl, Fit, fit-paid, fit-without, fit-with, all-side, rest-other, tree-ok}
+use Rattle.rules.proofs.Walking.{crossAll, paid, ifAny, tree, tally-none, tally-rest, best-ok, Within, All, all-cross, settled-paid, ctl, Fit, fit-paid, fit-without, fit-with, all-side, rest-other, tree-ok}
 
 -- the rule of the original
 abbrev pub leafOne : Aim → List Term → List Step

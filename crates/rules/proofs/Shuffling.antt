@@ -8,12 +8,13 @@ use lib.ListN.{length}
 use lib.Dec.{leb}
 use Rattle.rules.specs.Bit.{_⊕_, bit, xor}
 use Rattle.rules.specs.Fold.{Row, Term}
-use Rattle.rules.specs.Walk.{Step, cn, rot, Aim, free, on, owes, side, score, best, crossTerms, turns, leaf, aimWith, isNone, nonzero, phaseWalk, Node, Turn, crossNodes, openNode, aimed, turn, walk}
+use Rattle.rules.specs.Walk.{Step, cn, rot, Aim, free, on, owes, side, score, best, crossTerms, turns, leaf, aimWith, isNone, nonzero, phaseWalk, Node, Visit, crossNodes, openNode, visitAt, visit, walk, node}
+use Rattle.rules.specs.Order.{Shuffled, same, keep, swap, next, Stacked, none, more}
+use Rattle.rules.specs.Left.{pay}
 use Rattle.rules.specs.Synth.{synth}
-use Rattle.rules.specs.Order.{Shuffled, same, keep, swap, next}
 use Rattle.rules.proofs.Bits.{split}
-use Rattle.rules.proofs.Walking.{crossAll, pay, paid, ifAny, tree}
-use Rattle.rules.proofs.Machine.{phase-walk, node}
+use Rattle.rules.proofs.Walking.{crossAll, paid, ifAny, tree}
+use Rattle.rules.proofs.Machine.{phase-walk}
 
 pub shuffled-length : {l m : List Term} → Shuffled l m → length l ≡ length m
 shuffled-length same = refl
@@ -119,25 +120,21 @@ pub shuffled-synth : (rs : List Row) {l m : List Term} → Shuffled l m → synt
 unfolding synth
 shuffled-synth rs h = rw (shuffled-walk (length rs) h)
 
--- ---- at any turn of the machine: what code that partitions in place has to show of its stack
-
-pub data Stacked : List Node → List Node → Type 0 where
-  none : Stacked [] []
-  more : {cs : ℕ} {a : Aim} {ts us : List Term} {st su : List Node} → Shuffled ts us → Stacked st su → Stacked (node cs a ts ∷ st) (node cs a us ∷ su)
+-- ---- at any visit of the machine: what code that partitions in place has to show of its stack
 
 stacked-cross : (p t : ℕ) {st su : List Node} → Stacked st su → Stacked (crossNodes p t st) (crossNodes p t su)
 unfolding crossNodes
 stacked-cross p t none = none
 stacked-cross p t (more h k) = more (shuffled-cross p t h) (stacked-cross p t k)
 
-pub record Turned (r q : Turn) : Type 0 where
+pub record Visited (r q : Visit) : Type 0 where
   pub steps : r .steps ≡ q .steps
   pub stack : Stacked (r .stack) (q .stack)
 
 module _ (n cs : ℕ) {ts us : List Term} {st su : List Node} (h : Shuffled ts us) (k : Stacked st su) where
-  open-turned : (a : Aim) → Turned (openNode n cs a ts st) (openNode n cs a us su)
+  open-visited : (a : Aim) → Visited (openNode n cs a ts st) (openNode n cs a us su)
   unfolding openNode
-  open-turned a =
+  open-visited a =
       split (isNone cs)
       (λ e. rw e (record { steps = shuffled-leaf a h; stack = k }))
       (λ e. rw e (record {
@@ -149,29 +146,25 @@ module _ (n cs : ℕ) {ts us : List Term} {st su : List Node} (h : Shuffled ts u
             (more (shuffled-side false (best n cs ts .0) h) (more (shuffled-side true (best n cs ts .0) h) k));
       }))
 
-  aimed-turned : (a : Aim) → Turned (aimed n cs a ts st) (aimed n cs a us su)
-  unfolding aimed
-  aimed-turned free = open-turned free
-  aimed-turned (on t) = open-turned (on t)
-  aimed-turned (owes p t) = record { steps = refl; stack = more h (stacked-cross p t k) }
-
-turn-turned : (n cs : ℕ) (a : Aim) (ts us : List Term) {st su : List Node} → Shuffled ts us → Stacked st su → Turned (turn n (node cs a ts) st) (turn n (node cs a us) su)
-unfolding turn
-turn-turned n cs a [] [] h k = record { steps = refl; stack = k }
-turn-turned n cs a [] (u ∷ us) h k = absurd (no (shuffled-length h))
+visit-visited : (n cs : ℕ) (a : Aim) (ts us : List Term) {st su : List Node} → Shuffled ts us → Stacked st su → Visited (visit n (node cs a ts) st) (visit n (node cs a us) su)
+unfolding visit
+visit-visited n cs a [] [] h k = record { steps = refl; stack = k }
+visit-visited n cs a [] (u ∷ us) h k = absurd (no (shuffled-length h))
   where
     no : 0 ≡ suc (length us) → ⊥
     no q = omega arith
-turn-turned n cs a (t ∷ ts) [] h k = absurd (no (shuffled-length h))
+visit-visited n cs a (t ∷ ts) [] h k = absurd (no (shuffled-length h))
   where
     no : suc (length ts) ≡ 0 → ⊥
     no q = omega arith
-turn-turned n cs a (t ∷ ts) (u ∷ us) h k = aimed-turned n cs h k a
+visit-visited n cs free (t ∷ ts) (u ∷ us) h k = open-visited n cs h k free
+visit-visited n cs (on q) (t ∷ ts) (u ∷ us) h k = open-visited n cs h k (on q)
+visit-visited n cs (owes p q) (t ∷ ts) (u ∷ us) h k = record { steps = refl; stack = more h (stacked-cross p q k) }
 
 pub stacked-walk : (n f : ℕ) {st su : List Node} → Stacked st su → walk n f st ≡ walk n f su
 unfolding walk
 stacked-walk n zero h = refl
 stacked-walk n (suc f) none = refl
 stacked-walk n (suc f) (more {cs = cs} {a = a} {ts = ts} {us = us} h k) =
-    let t = turn-turned n cs a ts us h k in
+    let t = visit-visited n cs a ts us h k in
     ap₂ _++_ (t .steps) (stacked-walk n f (t .stack))

@@ -12,7 +12,8 @@ use borrow.Author.Tests.{ne-eqb}
 use Rattle.rules.specs.Bit.{_⊕_, bit, xor}
 use Rattle.rules.specs.Meaning.{Op, cnot, phase, change, when1, moved, added, wires, phases}
 use Rattle.rules.specs.Fold.{Term}
-use Rattle.rules.specs.Walk.{Step, cn, rot, Aim, free, on, owes, side, score, beats, best, crossTerms, turns, leaf, aimWith, isNone}
+use Rattle.rules.specs.Walk.{Step, cn, rot, Aim, free, on, owes, side, score, beats, best, crossTerms, turns, leaf, aimWith, isNone, Settled}
+use Rattle.rules.specs.Left.{pay, tally}
 use Rattle.rules.proofs.Bits.{xor-lt, split, same, eqb-self, none-set, ⊕-false}
 use Rattle.rules.proofs.Masks.{val, mask, bit-rest, bit-crossed, val-cross, val-ext, val-without, with-c, val-paid, val-leaf, val-none}
 
@@ -32,11 +33,6 @@ crossAll (cn p t ∷ ss) ts = crossAll ss (crossTerms p t ts)
 crossAll (rot q k ∷ ss) ts = crossAll ss ts
 
 -- ---- the recursion: k bounds the candidates left
-
-abbrev pub pay : Aim → List Step
-pay free = []
-pay (on t) = []
-pay (owes p t) = cn p t ∷ []
 
 abbrev pub paid : Aim → Aim
 paid free = free
@@ -58,10 +54,6 @@ tree n (suc k) cs a ts =
     ifAny ts (pay a ++ cond (isNone cs) (leaf (paid a) ts) (z ++ o))
 
 -- ---- how many candidates
-
-unfoldable pub tally : ℕ → (ℕ → Bool) → ℕ
-tally zero f = zero
-tally (suc n) f = when1 (f n) 1 + tally n f
 
 pub tally-ext : (n : ℕ) (f g : ℕ → Bool) → ((i : ℕ) → i < n → f i ≡ g i) → tally n f ≡ tally n g
 unfolding tally
@@ -268,11 +260,6 @@ abbrev pub ctl : ℕ → Aim → ℕ → Bool
 ctl cs free i = bit cs i
 ctl cs (on t) i = bit cs i
 ctl cs (owes p t) i = eqb i p || bit cs i
-
-abbrev pub Settled : Aim → Type 0
-Settled free = Unit {0}
-Settled (on t) = Unit {0}
-Settled (owes p t) = ⊥
 
 -- a node is in order: its target and what it owes are no candidates, and its parities have their bits
 abbrev pub Fit : ℕ → ℕ → Aim → List Term → Type 0

@@ -10,6 +10,8 @@ pub mod Counts
 pub mod Fold
 pub mod Walk
 pub mod Order
+pub mod Left
+pub mod Shortcuts
 pub mod Close
 pub mod Synth
 pub mod Plan

@@ -1,4 +1,5 @@
--- The phase walk: a stack of nodes, newest first; each turn takes the newest.
+-- The phase walk: a stack of nodes, newest first; each visit takes the newest.
+use mathlib.Core.Path.{_≡_}
 use mathlib.Core.Bool.{Bool, true, false, _&&_, cond}
 use mathlib.Core.List.{List, [], _∷_, _++_}
 use Prim.Native.Nat.{ℕ, zero, suc, _+_, _-_, _*_, _%_, _^_, max}
@@ -23,6 +24,9 @@ pub record Node : Type 0 where
   pub cands : ℕ
   pub aim : Aim
   pub set : List Term
+
+abbrev pub node : ℕ → Aim → List Term → Node
+node cs a ts = record { cands = cs; aim = a; set = ts }
 
 -- the terms with, and without, the bit c
 unfoldable pub side : Bool → ℕ → List Term → List Term
@@ -80,64 +84,85 @@ aimWith free c = on c
 aimWith (on t) c = owes c t
 aimWith (owes p t) c = owes p t
 
--- what a turn emits, and the nodes that then wait
-pub record Turn : Type 0 where
+-- the node owes nothing
+abbrev pub Settled : Aim → Type 0
+Settled free = Unit {0}
+Settled (on t) = Unit {0}
+Settled (owes p t) = ⊥
+
+-- ---- the rules 1 to 4: what a visit of the newest node emits, and the nodes that then wait
+
+pub record Visit : Type 0 where
   pub steps : List Step
   pub stack : List Node
+
+abbrev pub visited : List Step → List Node → Visit
+visited steps stack = record { steps = steps; stack = stack }
 
 abbrev pub isNone : ℕ → Bool
 isNone zero = true
 isNone (suc m) = false
 
--- rule 4: split by the best column; the side without runs first, target as before
-unfoldable pub splitNode : ℕ → ℕ → Aim → List Term → List Node → Turn
+-- split by the best column: the side without runs first, target as before; the side with owes the column or takes it as target
+unfoldable pub splitNode : ℕ → ℕ → Aim → List Term → List Node → Visit
 unfolding best side
 splitNode n cs a ts st =
     let c = best n cs ts .0 in
     let rest = xor cs (2 ^ c) in
-    record {
-      steps = [];
-      stack = record { cands = rest; aim = a; set = side false c ts } ∷ record { cands = rest; aim = aimWith a c; set = side true c ts } ∷ st;
-    }
+    visited [] (node rest a (side false c ts) ∷ node rest (aimWith a c) (side true c ts) ∷ st)
 
--- rule 3 where no candidates are left, else rule 4
-unfoldable pub openNode : ℕ → ℕ → Aim → List Term → List Node → Turn
+-- over n columns, at a node with some nodes waiting below
+pub data Rule (n : ℕ) : Node → List Node → Visit → Type 0 where
+  -- 1: an empty set is dropped, with any CNOT that it owes
+  empty : {cs : ℕ} {a : Aim} {st : List Node} → Rule n (node cs a []) st (visited [] st)
+  -- 2: an owed control is emitted, every waiting node takes note, and the node returns owing nothing
+  owed : {cs p t : ℕ} {e : Term} {es : List Term} {st : List Node}
+      → Rule n (node cs (owes p t) (e ∷ es)) st (visited (cn p t ∷ []) (node cs (on t) (e ∷ es) ∷ crossNodes p t st))
+  -- 3: no candidates left: the rotation on the target
+  last : {cs : ℕ} {a : Aim} {e : Term} {es : List Term} {st : List Node} → Settled a → isNone cs ≡ true
+      → Rule n (node cs a (e ∷ es)) st (visited (leaf a (e ∷ es)) st)
+  -- 4: else split by the best column
+  halves : {cs : ℕ} {a : Aim} {e : Term} {es : List Term} {st : List Node} → Settled a → isNone cs ≡ false
+      → Rule n (node cs a (e ∷ es)) st (splitNode n cs a (e ∷ es) st)
+
+-- visit by visit until no node waits: the steps that a stack makes
+pub data Walks (n : ℕ) : List Node → List Step → Type 0 where
+  done : Walks n [] []
+  next : {d : Node} {st : List Node} {v : Visit} {ss : List Step} → Rule n d st v → Walks n (v .stack) ss → Walks n (d ∷ st) (v .steps ++ ss)
+
+-- ---- the same as functions, which compute: there is one visit and one walk by the rules (`ruled`, `ruled-only`, `walked`, `walked-only`)
+
+-- rules 3 and 4
+unfoldable pub openNode : ℕ → ℕ → Aim → List Term → List Node → Visit
 unfolding splitNode turns
 openNode n cs a ts st =
     let r = splitNode n cs a ts st in
-    cond (isNone cs) (record { steps = leaf a ts; stack = st }) r
+    cond (isNone cs) (visited (leaf a ts) st) r
 
--- rule 2: an owed control is emitted, every waiting node takes note, and the node returns owing nothing
-unfoldable pub aimed : ℕ → ℕ → Aim → List Term → List Node → Turn
+unfoldable pub visitAt : ℕ → List Term → Aim → ℕ → List Node → Visit
 unfolding openNode crossNodes
-aimed n cs free ts st = openNode n cs free ts st
-aimed n cs (on t) ts st = openNode n cs (on t) ts st
-aimed n cs (owes p t) ts st = record { steps = cn p t ∷ []; stack = record { cands = cs; aim = on t; set = ts } ∷ crossNodes p t st }
+visitAt n [] a cs st = visited [] st
+visitAt n (e ∷ es) (owes p t) cs st = visited (cn p t ∷ []) (node cs (on t) (e ∷ es) ∷ crossNodes p t st)
+visitAt n (e ∷ es) free cs st = openNode n cs free (e ∷ es) st
+visitAt n (e ∷ es) (on t) cs st = openNode n cs (on t) (e ∷ es) st
 
--- rule 1: an empty set is dropped, with any CNOT that it owes
-unfoldable pub turnAt : ℕ → List Term → ℕ → Aim → List Node → Turn
-unfolding aimed
-turnAt n [] cs a st = record { steps = []; stack = st }
-turnAt n (t ∷ ts) cs a st = aimed n cs a (t ∷ ts) st
+unfoldable pub visit : ℕ → Node → List Node → Visit
+unfolding visitAt
+visit n d st = visitAt n (d .set) (d .aim) (d .cands) st
 
--- one turn over n columns, at the newest node d
-unfoldable pub turn : ℕ → Node → List Node → Turn
-unfolding turnAt
-turn n d st = turnAt n (d .set) (d .cands) (d .aim) st
-
--- the walk, for at most `fuel` turns
+-- the walk, for at most `fuel` visits
 unfoldable pub walk : ℕ → ℕ → List Node → List Step
-unfolding turn
+unfolding visit
 walk n zero st = []
 walk n (suc f) [] = []
-walk n (suc f) (d ∷ st) = let r = turn n d st in r .steps ++ walk n f (r .stack)
+walk n (suc f) (d ∷ st) = let r = visit n d st in r .steps ++ walk n f (r .stack)
 
 -- the terms other than 0 modulo 8
 unfoldable pub nonzero : List Term → List Term
 nonzero [] = []
 nonzero (t ∷ ts) = cond (isNone (t .turn % 8)) (nonzero ts) (t ∷ nonzero ts)
 
--- enough turns for n columns and k terms
+-- enough visits for n columns and k terms
 abbrev pub enough : ℕ → ℕ → ℕ
 enough n k = 3 * n * k + 2
 
@@ -146,7 +171,7 @@ unfoldable pub phaseWalk : ℕ → List Term → List Step
 unfolding walk nonzero
 phaseWalk n ts =
     let start = nonzero ts in
-    walk n (enough n (length start)) (record { cands = 2 ^ n - 1; aim = free; set = start } ∷ [])
+    walk n (enough n (length start)) (node (2 ^ n - 1) free start ∷ [])
 
 -- the rows that the wires hold after some steps
 unfoldable pub held : List Step → List ℕ → List ℕ

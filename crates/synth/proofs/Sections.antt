@@ -11,13 +11,13 @@ use lib.Seq.{drop-cons, drop-length}
 use Rattle.rules.specs.Bit.{bit}
 use Rattle.rules.specs.Gate.{Gate, gate1, codeX}
 use Rattle.rules.specs.Fold.{Row, Term, Block}
-use Rattle.rules.specs.Walk.{Step, free, nonzero, phaseWalk, held}
+use Rattle.rules.specs.Walk.{Step, free, nonzero, phaseWalk, held, node}
 use Rattle.rules.specs.Close.{units, closing}
 use Rattle.rules.specs.Synth.{emit, flipsOf, withSteps, synth}
 use Rattle.rules.specs.Budget.{Budget}
+use Rattle.rules.specs.Left.{left}
 use Rattle.rules.proofs.Bits.{split}
-use Rattle.rules.proofs.Machine.{node}
-use Rattle.rules.proofs.Turning.{left, left-first}
+use Rattle.rules.proofs.Visiting.{left-first}
 use Rattle.rules.proofs.Steps.{emit-append}
 use Rattle.terms.specs.Terms.{termsOf, Begins}
 use Rattle.terms.proofs.Room.{room-take}

@@ -13,7 +13,7 @@ use lib.ListN.{length, getD, set, take, drop}
 use lib.Seq.{length-take-le, take-at, drop-at}
 use Rattle.rules.specs.Bit.{bit, xor}
 use Rattle.rules.specs.Fold.{Term}
-use Rattle.rules.proofs.Chain.{flipped, flipTerms}
+use Rattle.rules.specs.Shortcuts.{flipped, flipTerms}
 use Rattle.parity.proofs.Laws.{xor-zero-r}
 use Rattle.terms.specs.Terms.{noTerm, Begins}
 

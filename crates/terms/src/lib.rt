@@ -6,7 +6,7 @@ ghost use Prim.Native.Nat.{_<_, _≤_};
 ghost use lib.ListN.{length, take, getD};
 ghost use Rattle.rules.specs.Fold.{signed, addTerm};
 ghost use Rattle.rules.specs.Walk.{nonzero, crossTerms};
-ghost use Rattle.rules.proofs.Chain.{flipTerms};
+ghost use Rattle.rules.specs.Shortcuts.{flipTerms};
 ghost use Rattle.parity.specs.View.{val};
 ghost use Rattle.terms.specs.Terms.{termsOf, termOf, noTerm, exchanged, place, Begins, Stores, Adds, Sides, SplitAt};
 

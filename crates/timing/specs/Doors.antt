@@ -7,9 +7,8 @@ use lib.IntN.{ℤ}
 use lib.ListN.{length}
 use Rattle.rules.specs.Budget.{Budget}
 use Rattle.rules.specs.Fold.{Term}
-use Rattle.rules.specs.Walk.{free}
-use Rattle.rules.proofs.Machine.{node}
-use Rattle.rules.proofs.Turning.{left}
+use Rattle.rules.specs.Walk.{free, node}
+use Rattle.rules.specs.Left.{left}
 use Rattle.walk.specs.Place.{Synthesized}
 
 -- nothing counted yet

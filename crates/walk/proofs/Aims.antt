@@ -12,12 +12,11 @@ use lib.Dec.{eqb}
 use Rattle.rules.specs.Bit.{bit, xor}
 use Rattle.rules.specs.Fold.{Term}
 use Rattle.rules.specs.Gate.{gate2, codeCnot}
-use Rattle.rules.specs.Walk.{Aim, free, on, owes, Node, side, best, turns, leaf, aimWith, isNone, crossNodes, turn}
+use Rattle.rules.specs.Walk.{Aim, free, on, owes, Node, side, best, turns, leaf, aimWith, isNone, crossNodes, visit, Settled, node}
 use Rattle.rules.specs.Walk as Walk
 use Rattle.rules.specs.Synth.{rotation, emit}
 use Rattle.rules.proofs.Bits.{split}
-use Rattle.rules.proofs.Machine.{node}
-use Rattle.rules.proofs.Walking.{Settled, rest-off, rest-other}
+use Rattle.rules.proofs.Walking.{rest-off, rest-other}
 use Rattle.parity.specs.declared.Parity.{Parity}
 use Rattle.parity.specs.View.{val}
 use Rattle.walk.specs.declared.Slot.{Slot}
@@ -75,31 +74,31 @@ settled-to t = split (eqb t nothing) (λ e. rw e tt) (λ e. rw e tt)
 -- ---- the turn of a node
 
 module _ (n : ℕ) (st : List Node) where
-  pub turn-none : (cs : ℕ) (a : Aim) → turn n (node cs a []) st ≡ record { steps = []; stack = st }
-  unfolding turn
-  turn-none cs a = refl
+  pub visit-none : (cs : ℕ) (a : Aim) → visit n (node cs a []) st ≡ record { steps = []; stack = st }
+  unfolding visit
+  visit-none cs a = refl
 
-  pub turn-pay : (cs p t : ℕ) (ts : List Term) → 0 < length ts
-      → turn n (node cs (owes p t) ts) st ≡ record { steps = Walk.cn p t ∷ []; stack = node cs (on t) ts ∷ crossNodes p t st }
-  unfolding turn
-  turn-pay cs p t [] h = absurd (not-suc-le-zero h)
-  turn-pay cs p t (e ∷ es) h = refl
+  pub visit-pay : (cs p t : ℕ) (ts : List Term) → 0 < length ts
+      → visit n (node cs (owes p t) ts) st ≡ record { steps = Walk.cn p t ∷ []; stack = node cs (on t) ts ∷ crossNodes p t st }
+  unfolding visit
+  visit-pay cs p t [] h = absurd (not-suc-le-zero h)
+  visit-pay cs p t (e ∷ es) h = refl
 
-  open-as : (cs : ℕ) (a : Aim) (ts : List Term) → Settled a → 0 < length ts → turn n (node cs a ts) st ≡ Walk.openNode n cs a ts st
-  unfolding turn
+  open-as : (cs : ℕ) (a : Aim) (ts : List Term) → Settled a → 0 < length ts → visit n (node cs a ts) st ≡ Walk.openNode n cs a ts st
+  unfolding visit
   open-as cs a [] s h = absurd (not-suc-le-zero h)
   open-as cs free (e ∷ es) s h = refl
   open-as cs (on t) (e ∷ es) s h = refl
   open-as cs (owes p t) (e ∷ es) s h = absurd s
 
-  pub turn-leaf : (cs : ℕ) (a : Aim) (ts : List Term) → Settled a → 0 < length ts → isNone cs ≡ true → turn n (node cs a ts) st ≡ record { steps = leaf a ts; stack = st }
-  unfolding turn
-  turn-leaf cs a ts s h e = open-as cs a ts s h ∙ rw e
+  pub visit-leaf : (cs : ℕ) (a : Aim) (ts : List Term) → Settled a → 0 < length ts → isNone cs ≡ true → visit n (node cs a ts) st ≡ record { steps = leaf a ts; stack = st }
+  unfolding visit
+  visit-leaf cs a ts s h e = open-as cs a ts s h ∙ rw e
 
-  pub turn-split : (cs : ℕ) (a : Aim) (ts : List Term) (c rest : ℕ) → Settled a → 0 < length ts → isNone cs ≡ false → c ≡ best n cs ts .0 → rest ≡ xor cs (2 ^ c)
-      → turn n (node cs a ts) st ≡ record { steps = []; stack = node rest a (side false c ts) ∷ node rest (aimWith a c) (side true c ts) ∷ st }
-  unfolding turn
-  turn-split cs a ts c rest s h e f g = open-as cs a ts s h ∙ rw (e, g, f)
+  pub visit-split : (cs : ℕ) (a : Aim) (ts : List Term) (c rest : ℕ) → Settled a → 0 < length ts → isNone cs ≡ false → c ≡ best n cs ts .0 → rest ≡ xor cs (2 ^ c)
+      → visit n (node cs a ts) st ≡ record { steps = []; stack = node rest a (side false c ts) ∷ node rest (aimWith a c) (side true c ts) ∷ st }
+  unfolding visit
+  visit-split cs a ts c rest s h e f g = open-as cs a ts s h ∙ rw (e, g, f)
 
 -- ---- what a leaf emits
 

@@ -16,15 +16,14 @@ use Rattle.rules.specs.Fold.{Term}
 use Rattle.rules.specs.Gate.{gate2, codeCnot}
 use Rattle.rules.specs.Budget.{Budget}
 use Rattle.rules.specs.Close.{addTo}
-use Rattle.rules.specs.Walk.{cn, on, Node, leaf, held}
+use Rattle.rules.specs.Walk.{cn, on, Node, leaf, held, node}
 use Rattle.rules.specs.Synth.{emit}
+use Rattle.rules.specs.Left.{tally, Leads, Stairs}
+use Rattle.rules.specs.Shortcuts.{downs, run, any}
 use Rattle.rules.proofs.Bits.{split, xor-lt}
-use Rattle.rules.proofs.Walking.{rest-off, tally, tally-rest}
-use Rattle.rules.proofs.Machine.{node, crossStack}
-use Rattle.rules.proofs.Depth.{Stairs}
-use Rattle.rules.proofs.Choosing.{any}
-use Rattle.rules.proofs.Turning.{Leads}
-use Rattle.rules.proofs.Chain.{downs, run, downs-next, leads-down, leads-taken}
+use Rattle.rules.proofs.Walking.{rest-off, tally-rest}
+use Rattle.rules.proofs.Machine.{crossStack}
+use Rattle.rules.proofs.Chain.{downs-next, leads-down, leads-taken}
 use Rattle.parity.specs.Columns.{Highest}
 use Rattle.parity.proofs.Laws.{bit-high}
 use Rattle.rows.specs.Rows.{rowsOf}

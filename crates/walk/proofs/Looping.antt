@@ -11,12 +11,12 @@ use lib.Dec.{ltb}
 use borrow.Author.Tests.{ltb-false}
 use Rattle.rules.specs.Fold.{Term}
 use Rattle.rules.specs.Budget.{Budget}
-use Rattle.rules.specs.Walk.{Step, free, Node}
+use Rattle.rules.specs.Walk.{Step, free, Node, node}
+use Rattle.rules.specs.Left.{weight, left, Stairs}
+use Rattle.rules.specs.Order.{Stacked, none, more}
 use Rattle.rules.proofs.Bits.{split}
-use Rattle.rules.proofs.Machine.{node}
-use Rattle.rules.proofs.Depth.{Stairs, stairs-first}
-use Rattle.rules.proofs.Shuffling.{Stacked, none, more}
-use Rattle.rules.proofs.Turning.{weight, left, left-none, weight-stacked, left-stacked}
+use Rattle.rules.proofs.Depth.{stairs-first}
+use Rattle.rules.proofs.Visiting.{left-none, weight-stacked, left-stacked}
 use Rattle.parity.specs.declared.Parity.{Parity}
 use Rattle.parity.specs.View.{val}
 use Rattle.emit.specs.Emitted.{Ready}

@@ -8,9 +8,9 @@ use native.Mathlib.Omega.{arith}
 use lib.ListN.{length, getD, set, take, drop}
 use lib.Seq.{slice, take-take, getD-set-other}
 use Rattle.rules.specs.Fold.{Term}
-use Rattle.rules.specs.Walk.{Step, cn, rot, Node, crossTerms}
+use Rattle.rules.specs.Walk.{Step, cn, rot, Node, crossTerms, node}
 use Rattle.rules.proofs.Walking.{crossAll}
-use Rattle.rules.proofs.Machine.{node, crossStack, cross-cons, cross-empty}
+use Rattle.rules.proofs.Machine.{crossStack, cross-cons, cross-empty}
 use Rattle.parity.specs.View.{val}
 use Rattle.walk.specs.declared.Slot.{Slot}
 use Rattle.walk.specs.Stack.{noSlot, aimOf, nodeOf, stackOf, Aimed, Sound}

@@ -12,17 +12,17 @@ use Rattle.rules.specs.Bit.{bit}
 use Rattle.rules.specs.Fold.{Term}
 use Rattle.rules.specs.Budget.{Budget}
 use Rattle.rules.specs.Order as Order
-use Rattle.rules.specs.Walk.{Step, cn, Aim, free, on, owes, Node, side, best, leaf, aimWith, isNone, crossNodes, Turn, turn, held}
+use Rattle.rules.specs.Walk.{Step, cn, Aim, free, on, owes, Node, side, best, leaf, aimWith, isNone, crossNodes, Visit, visit, held, node}
 use Rattle.rules.specs.Synth.{emit}
+use Rattle.rules.specs.Left.{Leads, Stairs}
+use Rattle.rules.specs.Shortcuts.{run, any}
+use Rattle.rules.specs.Order.{Stacked, none, more}
 use Rattle.rules.proofs.Bits.{and-right}
-use Rattle.rules.proofs.Machine.{node, crossStack}
-use Rattle.rules.proofs.Depth.{Stairs}
-use Rattle.rules.proofs.Choosing.{any}
-use Rattle.rules.proofs.Turning.{Leads, leads-turn}
+use Rattle.rules.proofs.Machine.{crossStack}
+use Rattle.rules.proofs.Visiting.{leads-visit}
 use Rattle.rules.proofs.Narrowing.{Seen, seen-le, seen-lt, stairs-narrow, leads-narrow}
-use Rattle.rules.proofs.Chain.{run, cross-run}
+use Rattle.rules.proofs.Chain.{cross-run}
 use Rattle.rules.proofs.Walking.{crossAll, tally-rest, best-ok}
-use Rattle.rules.proofs.Shuffling.{Stacked, none, more}
 use Rattle.parity.specs.declared.Parity.{Parity}
 use Rattle.parity.specs.View.{val}
 use Rattle.emit.specs.Emitted.{Emits}
@@ -30,7 +30,7 @@ use Rattle.walk.specs.declared.Slot.{Slot}
 use Rattle.walk.specs.Stack.{nothing, noSlot, aimTo, aimOf, owing, nodeOf, stackOf, Aimed, Sound, takes, leaves, paid, narrowed, Branched}
 use Rattle.walk.specs.Place.{Place, stack, Standing, Stepped, Paid, Descends}
 use Rattle.walk.proofs.Stacks.{slice-rest, stack-length, stack-top, stack-at, sound-at, Top, sound-top, stack-slots, sound-slots, stack-terms, stack-cross}
-use Rattle.walk.proofs.Aims.{aim-owes, aim-settled, aim-paid, takes-cands, takes-start, takes-aim, takes-aimed, leaves-aimed, settled-to, turn-none, turn-pay, turn-leaf, turn-split}
+use Rattle.walk.proofs.Aims.{aim-owes, aim-settled, aim-paid, takes-cands, takes-start, takes-aim, takes-aimed, leaves-aimed, settled-to, visit-none, visit-pay, visit-leaf, visit-split}
 use Rattle.walk.proofs.Making.{made-none}
 use Rattle.walk.proofs.Chaining.{added, chosen-lt, chosen-apart, chosen-leads}
 use Rattle.walk.proofs.Splitting.{split-fits, split-front, split-zeros, split-ones}
@@ -103,10 +103,10 @@ module _ (names : List ℕ) (p : Place) (h : Standing names p) (at : ℕ) (k : p
   top-stairs = subst (Stairs (length names)) top-is (h .stairs)
 
   -- by the turn of the newest node
-  by-turn : (r : Turn) → turn (length names) (nodeOf d (p .terms) (p .end)) below ≡ r → Leads (length names) (stack p) (r .steps) (r .stack)
-  by-turn r e =
+  by-visit : (r : Visit) → visit (length names) (nodeOf d (p .terms) (p .end)) below ≡ r → Leads (length names) (stack p) (r .steps) (r .stack)
+  by-visit r e =
       subst (λ (st : List Node). Leads (length names) st (r .steps) (r .stack)) (sym top-is)
-      (subst (λ (t : Turn). Leads (length names) (nodeOf d (p .terms) (p .end) ∷ below) (t .steps) (t .stack)) e (leads-turn (length names) (nodeOf d (p .terms) (p .end)) below top-stairs))
+      (subst (λ (t : Visit). Leads (length names) (nodeOf d (p .terms) (p .end) ∷ below) (t .steps) (t .stack)) e (leads-visit (length names) (nodeOf d (p .terms) (p .end)) below top-stairs))
 
   -- by what the newest node leads to with only the candidates that its terms have
   module _ (live : ℕ) (v : Seen (val (d .cands)) live (slice (d .start) (p .end) (p .terms))) where
@@ -118,11 +118,11 @@ module _ (names : List ℕ) (p : Place) (h : Standing names p) (at : ℕ) (k : p
         subst (λ (st : List Node). Leads (length names) st ss su) (sym top-is)
         (leads-narrow (length names) (val (d .cands)) live (aimOf d) (slice (d .start) (p .end) (p .terms)) below top-stairs v l)
 
-    by-narrow-turn : (r : Turn) → turn (length names) (node live (aimOf d) (slice (d .start) (p .end) (p .terms))) below ≡ r → Leads (length names) (stack p) (r .steps) (r .stack)
-    by-narrow-turn r e =
+    by-narrow-visit : (r : Visit) → visit (length names) (node live (aimOf d) (slice (d .start) (p .end) (p .terms))) below ≡ r → Leads (length names) (stack p) (r .steps) (r .stack)
+    by-narrow-visit r e =
         by-narrow
-        (subst (λ (t : Turn). Leads (length names) (node live (aimOf d) (slice (d .start) (p .end) (p .terms)) ∷ below) (t .steps) (t .stack)) e
-        (leads-turn (length names) (node live (aimOf d) (slice (d .start) (p .end) (p .terms))) below fewer))
+        (subst (λ (t : Visit). Leads (length names) (node live (aimOf d) (slice (d .start) (p .end) (p .terms)) ∷ below) (t .steps) (t .stack)) e
+        (leads-visit (length names) (node live (aimOf d) (slice (d .start) (p .end) (p .terms))) below fewer))
 
   pub some-terms : d .start ≢ p .end → 0 < length (slice (d .start) (p .end) (p .terms))
   some-terms q = omega (arith, length-slice (d .start) (p .end) (p .terms) (h .fits), top .start, q)
@@ -131,12 +131,12 @@ module _ (names : List ℕ) (p : Place) (h : Standing names p) (at : ℕ) (k : p
   pub step-drop : d .start ≡ p .end → Stepped names p (place (p .slots) (p .terms) (p .rows) (p .out) at (p .end) (p .budget)) true
   step-drop q =
       let a : slice (d .start) (p .end) (p .terms) ≡ [] = ap (λ (j : ℕ). slice j (p .end) (p .terms)) q ∙ slice-empty (p .end) (p .terms) in
-      let r : turn (length names) (nodeOf d (p .terms) (p .end)) below ≡ record { steps = []; stack = below } =
-      ap (λ (set : List Term). turn (length names) (node (val (d .cands)) (aimOf d) set) below) a ∙ turn-none (length names) below (val (d .cands)) (aimOf d) in
+      let r : visit (length names) (nodeOf d (p .terms) (p .end)) below ≡ record { steps = []; stack = below } =
+      ap (λ (set : List Term). visit (length names) (node (val (d .cands)) (aimOf d) set) below) a ∙ visit-none (length names) below (val (d .cands)) (aimOf d) in
       record {
         steps = [];
         next = below;
-        leads = by-turn _ r;
+        leads = by-visit _ r;
         made = made-none names (p .out) (p .budget) (p .rows) (h .ready);
         stack = stacked-is (ap (stackOf (p .slots) at (p .terms)) (sym q));
         sound = subst (Sound (length names) (p .slots) at) q rest-sound;
@@ -151,13 +151,13 @@ module _ (names : List ℕ) (p : Place) (h : Standing names p) (at : ℕ) (k : p
   step-leaf live v q o z out b w em =
       let set : List Term = slice (d .start) (p .end) (p .terms) in
       let a : aimOf d ≡ aimTo (d .target) = aim-settled d o in
-      let r : turn (length names) (node (val live) (aimOf d) set) below ≡ record { steps = leaf (aimTo (d .target)) set; stack = below } =
-      ap (λ (x : Aim). turn (length names) (node (val live) x set) below) a
-      ∙ turn-leaf (length names) below (val live) (aimTo (d .target)) set (settled-to (d .target)) (some-terms q) (ap isNone z) in
+      let r : visit (length names) (node (val live) (aimOf d) set) below ≡ record { steps = leaf (aimTo (d .target)) set; stack = below } =
+      ap (λ (x : Aim). visit (length names) (node (val live) x set) below) a
+      ∙ visit-leaf (length names) below (val live) (aimTo (d .target)) set (settled-to (d .target)) (some-terms q) (ap isNone z) in
       record {
         steps = leaf (aimTo (d .target)) set;
         next = below;
-        leads = by-narrow-turn (val live) v _ r;
+        leads = by-narrow-visit (val live) v _ r;
         made = record { emits = em; rows = λ _. still (aimTo (d .target)) set (p .rows) };
         stack = stacked-same below;
         sound = rest-sound;
@@ -179,9 +179,9 @@ module _ (names : List ℕ) (p : Place) (h : Standing names p) (at : ℕ) (k : p
       let set : List Term = slice (d .start) (p .end) (p .terms) in
       let a = aim-owes d o in
       let cs : ℕ = val (d .cands) in
-      let r : turn (length names) (nodeOf d (p .terms) (p .end)) below ≡ record { steps = cn (d .owed) (d .target) ∷ []; stack = node cs (on (d .target)) set ∷ crossNodes (d .owed) (d .target) below } =
-      ap (λ (x : Aim). turn (length names) (node cs x set) below) (a .0)
-      ∙ turn-pay (length names) below cs (d .owed) (d .target) set (some-terms q) in
+      let r : visit (length names) (nodeOf d (p .terms) (p .end)) below ≡ record { steps = cn (d .owed) (d .target) ∷ []; stack = node cs (on (d .target)) set ∷ crossNodes (d .owed) (d .target) below } =
+      ap (λ (x : Aim). visit (length names) (node cs x set) below) (a .0)
+      ∙ visit-pay (length names) below cs (d .owed) (d .target) set (some-terms q) in
       let got : paid d ≡ getD ss at noSlot = sym (ap (λ (x : List Slot). getD x at noSlot) f ∙ getD-set-same (p .slots) at (paid d) noSlot (omega (arith, top-deep, h .wide))) in
       let s-below : stackOf ss at ts (d .start) ≡ crossNodes (d .owed) (d .target) below =
       ap (λ (x : List Slot). stackOf x at ts (d .start)) f ∙ stack-slots (p .slots) at (paid d) at ts (d .start) (omega arith)
@@ -193,7 +193,7 @@ module _ (names : List ℕ) (p : Place) (h : Standing names p) (at : ℕ) (k : p
       record {
         steps = cn (d .owed) (d .target) ∷ [];
         next = node cs (on (d .target)) set ∷ crossNodes (d .owed) (d .target) below;
-        leads = by-turn _ r;
+        leads = by-visit _ r;
         made = record { emits = pd .emits; rows = λ _. pd .rows ∙ added (d .owed) (d .target) (p .rows) };
         stack = stacked-is s-top;
         sound = sound-at (length names) ss (p .depth) (p .end) at k (paid d) got (top .start)
@@ -255,9 +255,9 @@ module _ (names : List ℕ) (p : Place) (h : Standing names p) (at : ℕ) (k : p
       let y : Slot = leaves d (br .rest) (br .ones) in
       let mid : List Slot = set (p .slots) at x in
       let after : List Node = node rest (aimWith (aimTo (d .target)) c) (side true c us) ∷ below in
-      let r : turn (length names) (node cs (aimOf d) us) below ≡ record { steps = []; stack = node rest (aimTo (d .target)) (side false c us) ∷ after } =
-      ap (λ (v : Aim). turn (length names) (node cs v us) below) a
-      ∙ turn-split (length names) below cs (aimTo (d .target)) us c rest (settled-to (d .target)) (some-terms q) (not-none cs z) c-is (br .less) in
+      let r : visit (length names) (node cs (aimOf d) us) below ≡ record { steps = []; stack = node rest (aimTo (d .target)) (side false c us) ∷ after } =
+      ap (λ (v : Aim). visit (length names) (node cs v us) below) a
+      ∙ visit-split (length names) below cs (aimTo (d .target)) us c rest (settled-to (d .target)) (some-terms q) (not-none cs z) c-is (br .less) in
       let deep : at + 1 < length (p .slots) = omega (arith, top-more live v z, h .wide) in
       let got-y : y ≡ getD ss (at + 1) noSlot =
       sym (ap (λ (l : List Slot). getD l (at + 1) noSlot) (br .slots) ∙ getD-set-same mid (at + 1) y noSlot (lt-length-set (p .slots) at x deep)) in
@@ -288,7 +288,7 @@ module _ (names : List ℕ) (p : Place) (h : Standing names p) (at : ℕ) (k : p
       record {
         steps = [];
         next = node rest (aimTo (d .target)) (side false c us) ∷ after;
-        leads = by-narrow-turn cs v _ r;
+        leads = by-narrow-visit cs v _ r;
         made = made-none names (p .out) (p .budget) (p .rows) (h .ready);
         stack = subst (λ (st : List Node). Stacked st (node rest (aimTo (d .target)) (side false c us) ∷ after)) (sym s-y)
             (more (split-zeros c (d .start) (p .end) (p .terms) ts (br .ones) (top .start) (h .fits) (br .split)) (stacked-same after));

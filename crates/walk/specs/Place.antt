@@ -11,10 +11,9 @@ use Rattle.rules.specs.Walk.{Step, cn, Node, crossTerms, held}
 use Rattle.rules.specs.Close.{addTo}
 use Rattle.rules.specs.Budget.{Budget}
 use Rattle.rules.specs.Synth as Synth
-use Rattle.rules.proofs.Depth.{Stairs}
-use Rattle.rules.proofs.Turning.{Leads}
-use Rattle.rules.proofs.Chain.{run, flipTerms}
-use Rattle.rules.proofs.Shuffling.{Stacked}
+use Rattle.rules.specs.Left.{Leads, Stairs}
+use Rattle.rules.specs.Shortcuts.{run, flipTerms}
+use Rattle.rules.specs.Order.{Stacked}
 use Rattle.budget.specs.declared.Pushed.{Pushed}
 use Rattle.budget.specs.View.{view}
 use Rattle.terms.specs.Terms.{termsOf, Begins}

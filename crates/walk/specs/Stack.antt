@@ -9,8 +9,7 @@ use lib.Seq.{slice}
 use lib.Dec.{eqb}
 use Rattle.rules.specs.Bit.{bit, xor}
 use Rattle.rules.specs.Fold.{Term}
-use Rattle.rules.specs.Walk.{Aim, free, on, owes, Node}
-use Rattle.rules.proofs.Machine.{node}
+use Rattle.rules.specs.Walk.{Aim, free, on, owes, Node, node}
 use Rattle.parity.specs.declared.Parity.{Parity}
 use Rattle.parity.specs.View.{val}
 use Rattle.parity.specs.Columns.{HighestIs}

@@ -5,7 +5,7 @@ use Prim.Native.Nat.{ℕ, _-_, _≤_}
 use native.Mathlib.Omega.{arith}
 use lib.ListN.{drop}
 use Rattle.rules.specs.Bit.{bit}
-use Rattle.rules.proofs.Choosing.{any}
+use Rattle.rules.specs.Shortcuts.{any}
 use Rattle.parity.specs.View.{val}
 use Rattle.terms.specs.Terms.{termsOf}
 use Rattle.terms.proofs.Room.{room-length}

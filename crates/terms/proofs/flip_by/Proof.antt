@@ -4,7 +4,7 @@ use Prim.Native.Nat.{ℕ, _-_, _≤_}
 use native.Mathlib.Omega.{arith}
 use lib.ListN.{length}
 use Rattle.rules.specs.Bit.{bit, xor}
-use Rattle.rules.proofs.Chain.{flipped}
+use Rattle.rules.specs.Shortcuts.{flipped}
 use Rattle.parity.specs.View.{val}
 use Rattle.parity.proofs.Tables.{Table, table-made, table-picks}
 use Rattle.terms.specs.Terms.{termsOf}

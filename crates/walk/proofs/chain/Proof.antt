@@ -7,9 +7,10 @@ use native.Mathlib.Omega.{arith}
 use borrow.Author.Tests.{eqb-true, eqb-false, not-true}
 use lib.ListN.{length}
 use Rattle.rules.specs.Bit.{bit}
+use Rattle.rules.specs.Left.{tally}
+use Rattle.rules.specs.Shortcuts.{downs}
 use Rattle.rules.proofs.Bits.{and-left, and-right}
-use Rattle.rules.proofs.Walking.{tally}
-use Rattle.rules.proofs.Chain.{downs, downs-zero}
+use Rattle.rules.proofs.Chain.{downs-zero}
 use Rattle.parity.specs.View.{val}
 use Rattle.budget.specs.View.{view}
 use Rattle.rows.specs.Rows.{rowsOf}

@@ -9,7 +9,7 @@ use lib.ListN.{length, set}
 use lib.Dec.{ltb}
 use Rattle.terms.specs.Terms.{termsOf}
 use Rattle.rules.proofs.Bits.{and-left, and-right}
-use Rattle.rules.proofs.Turning.{left}
+use Rattle.rules.specs.Left.{left}
 use Rattle.terms.proofs.Room.{room-length}
 use Rattle.walk.specs.Stack.{slotsOf, first}
 use Rattle.walk.specs.Place.{stack, placeOf}

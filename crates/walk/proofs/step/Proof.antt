@@ -11,7 +11,7 @@ use lib.ListN.{length}
 use lib.Seq.{slice}
 use Rattle.rules.specs.Bit.{bit}
 use Rattle.rules.specs.Fold.{Term}
-use Rattle.rules.proofs.Choosing.{any}
+use Rattle.rules.specs.Shortcuts.{any}
 use Rattle.rules.proofs.Narrowing.{Seen, seen-lt}
 use Rattle.parity.specs.View.{val}
 use Rattle.terms.specs.Terms.{termsOf}
