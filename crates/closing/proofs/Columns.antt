@@ -10,7 +10,7 @@ use lib.ListN.{length, getD, length-append}
 use lib.Seq.{length-take-le}
 use Rattle.rules.specs.Bit.{bit}
 use Rattle.rules.specs.Walk.{cn}
-use Rattle.rules.specs.Close.{firstWith, Adds, note, clear, andThen, diagonal, onward, reduceFrom}
+use Rattle.rules.specs.Close.{firstWith, Adds, note, clear, andThen, diagonal, reduceFrom}
 use Rattle.rules.proofs.Bits.{split}
 use Rattle.rules.proofs.Counting.{size}
 use Rattle.rows.specs.Rows.{rowsOf, otherHas}
@@ -54,7 +54,7 @@ module _ (n c : ℕ) (d : Adds) where
   unfolding reduceFrom
   reduce-end l = let s : n - c ≡ 0 = omega arith in rw s
 
-  step : c < n → reduceFrom n (n - c) c d ≡ onward (diagonal n c d) (λ e. reduceFrom n (n - (c + 1)) (c + 1) (clear c n zero e))
+  step : c < n → reduceFrom n (n - c) c d ≡ andThen (diagonal n c d) (λ e. reduceFrom n (n - (c + 1)) (c + 1) (clear c n zero e))
   unfolding reduceFrom
   step l =
       let s : n - c ≡ suc (n - (c + 1)) = omega arith in
@@ -93,7 +93,7 @@ over-more limit n zero c d l = l
 over-more limit n (suc k) c d l = go (diagonal n c d) refl (over-more limit n k (suc c))
   where
     go : (o : Option Adds) → diagonal n c d ≡ o → ((e : Adds) → limit < size e → Over limit (reduceFrom n k (suc c) e))
-        → Over limit (onward o (λ e. reduceFrom n k (suc c) (clear c n zero e)))
+        → Over limit (andThen o (λ e. reduceFrom n k (suc c) (clear c n zero e)))
     go none f ih = tt
     go (some e) f ih = ih (clear c n zero e) (omega (arith, diagonal-grows n c d e f, clear-grows c n zero e))
 
@@ -106,7 +106,7 @@ start m room = let s : length (rowsOf m) - 0 ≡ length (rowsOf m) = omega arith
 pub lost-diagonal : (limit n c : ℕ) (d : Adds) (W : Option Adds) → W ≡ reduceFrom n (n - c) c d → c < n → Over limit (diagonal n c d) → Over limit W
 lost-diagonal limit n c d W w l h = rw (w ∙ step n c d l) (go (diagonal n c d) h)
   where
-    go : (o : Option Adds) → Over limit o → Over limit (onward o (λ e. reduceFrom n (n - (c + 1)) (c + 1) (clear c n zero e)))
+    go : (o : Option Adds) → Over limit o → Over limit (andThen o (λ e. reduceFrom n (n - (c + 1)) (c + 1) (clear c n zero e)))
     go none q = tt
     go (some e) q = over-more limit n (n - (c + 1)) (c + 1) (clear c n zero e) (omega (arith, clear-grows c n zero e))
 

@@ -14,7 +14,7 @@ use borrow.Author.Tests.{ltb-true, ltb-false}
 use Rattle.rules.specs.Gate.{Gate, gate2, codeCnot}
 use Rattle.rules.specs.Counts.{twos}
 use Rattle.rules.specs.Walk.{Step, cn}
-use Rattle.rules.specs.Close.{Adds, times, eqRows, inverse, onward, reduceFrom, closing}
+use Rattle.rules.specs.Close.{Adds, times, eqRows, inverse, andThen, reduceFrom, closing}
 use Rattle.rules.specs.Synth.{emit}
 use Rattle.rules.specs.Budget.{Budget}
 use Rattle.rules.proofs.Bits.{split}
@@ -92,16 +92,16 @@ module _ (ws steps : List ℕ) (k : ℕ) (fits : 2 * k ≤ length steps) where
 
 module _ (from to : List ℕ) (inv : List ℕ) (l : length from ≡ length to) (e : eqRows from to ≡ false) (f : inverse from ≡ some inv)
     (rows : List ℕ) (g : rows ≡ map (λ v. times v 0 inv) to) where
-  reduced : closing from to ≡ onward (wanted rows) (λ m. some (reverse (m .adds)))
+  reduced : closing from to ≡ andThen (wanted rows) (λ m. some (reverse (m .adds)))
   reduced =
       closing-by from to inv e f
-      ∙ ap (λ (n : ℕ). onward (reduceFrom n n zero (record { rows = map (λ v. times v 0 inv) to; adds = [] })) (λ m. some (reverse (m .adds)))) (sym (length-map to (λ v. times v 0 inv)))
-      ∙ ap (λ (m : List ℕ). onward (wanted m) (λ m. some (reverse (m .adds)))) (sym g)
+      ∙ ap (λ (n : ℕ). andThen (reduceFrom n n zero (record { rows = map (λ v. times v 0 inv) to; adds = [] })) (λ m. some (reverse (m .adds)))) (sym (length-map to (λ v. times v 0 inv)))
+      ∙ ap (λ (m : List ℕ). andThen (wanted m) (λ m. some (reverse (m .adds)))) (sym g)
 
   -- it ended: the closing map is its additions in reverse
   pub closing-made : (limit k : ℕ) (steps : List ℕ) → Made limit k (wanted rows) steps → closing from to ≡ some (backwards steps k)
   closing-made limit k steps m =
-      reduced ∙ ap (λ (o : Option Adds). onward o (λ m. some (reverse (m .adds)))) (m .whole)
+      reduced ∙ ap (λ (o : Option Adds). andThen o (λ m. some (reverse (m .adds)))) (m .whole)
       ∙ ap (λ (a : List Step). some (reverse a)) (sym (m .listed))
 
   pub made-sent : (limit k : ℕ) (names steps : List ℕ) → Made limit k (wanted rows) steps → 2 * k ≤ length steps → length names ≡ length to → Wired names → Sent names steps k
@@ -119,7 +119,7 @@ module _ (from to : List ℕ) (inv : List ℕ) (l : length from ≡ length to) (
   pub closing-lost : (limit : ℕ) (c : List Step) → Over limit (wanted rows) → closing from to ≡ some c → (limit < length c) × Pure c
   closing-lost limit c o q = (go (wanted rows) o (sym reduced ∙ q), closing-steps from to c l q .1)
     where
-      go : (z : Option Adds) → Over limit z → onward z (λ m. some (reverse (m .adds))) ≡ some c → limit < length c
+      go : (z : Option Adds) → Over limit z → andThen z (λ m. some (reverse (m .adds))) ≡ some c → limit < length c
       go none o r = absurd (Option·none-ne-some c r)
       go (some d) o r = omega (arith, ap length (Option·some-injective (reverse (d .adds)) c r), length-reverse (d .adds))
 

@@ -14,7 +14,7 @@ use borrow.Author.Tests.{eqb-true, ne-eqb}
 use Rattle.rules.specs.Bit.{_⊕_, bit, sum, dot, xor}
 use Rattle.rules.specs.Meaning.{change, moved, added, wires, phases}
 use Rattle.rules.specs.Walk.{Step, cn, rot}
-use Rattle.rules.specs.Close.{addTo, swap, firstWith, units, times, Pairs, clearBoth, andThen, invertFrom, inverse, Adds, note, clear, diagonal, onward, reduceFrom, eqRows, needed, closing}
+use Rattle.rules.specs.Close.{addTo, swap, firstWith, units, times, Pairs, clearBoth, andThen, invertFrom, inverse, Adds, note, clear, diagonal, reduceFrom, eqRows, needed, closing}
 use Rattle.rules.proofs.Bits.{split, and-left, and-right, same, eqb-self, eqb-sym, bit-xor, sum-ext, sum-at, dot-xor, dot-unit, dot-zero, ⊕-false, ⊕-assoc, ⊕-self, ⊕-left}
 use Rattle.rules.proofs.Walking.{ops, Within}
 
@@ -389,7 +389,7 @@ module _ (n : ℕ) (y goal : ℕ → Bool) where
       Goal : Type 0
       Goal = Reduced d × Unit-below n n (d .rows)
 
-      go : (o : Option Adds) → diagonal n c m ≡ o → onward o (λ z. reduceFrom n k (suc c) (clear c n zero z)) ≡ some d
+      go : (o : Option Adds) → diagonal n c m ≡ o → andThen o (λ z. reduceFrom n k (suc c) (clear c n zero z)) ≡ some d
           → ((m′ : Adds) → Unit-below n (suc c) (m′ .rows) → Reduced m′ → reduceFrom n k (suc c) m′ ≡ some d → Goal) → Goal
       go none f g ih = absurd (Option·none-ne-some d g)
       go (some z) f g ih =
@@ -433,7 +433,7 @@ pub record Closes (n : ℕ) (x y : ℕ → Bool) (wanted : List ℕ) (ss : List 
 
 module _ (n : ℕ) (x y : ℕ → Bool) (from wanted : List ℕ) (lf : length from ≡ n) (lw : length wanted ≡ n)
     (has : (i : ℕ) → i < n → y i ≡ dot n (at from i) x) where
-  from-inverse : (inv : List ℕ) → inverse from ≡ some inv → (length inv ≡ n) × ((i : ℕ) → i < n → dot n (at inv i) y ≡ x i)
+  pub from-inverse : (inv : List ℕ) → inverse from ≡ some inv → (length inv ≡ n) × ((i : ℕ) → i < n → dot n (at inv i) y ≡ x i)
   unfolding inverse Unit-below
   from-inverse inv e =
       invert-ok n x y n zero (record { left = from; right = units n zero }) inv (omega arith) (λ i j hi hj. absurd (not-suc-le-zero hj))
@@ -456,9 +456,9 @@ module _ (n : ℕ) (x y : ℕ → Bool) (from wanted : List ℕ) (lf : length fr
       (λ f. go (inverse from) refl (rw f at e))
     where
       Last : Option Adds → Type 0
-      Last o = onward o (λ m. some (reverse (m .adds))) ≡ some ss
+      Last o = andThen o (λ m. some (reverse (m .adds))) ≡ some ss
 
-      go : (o : Option (List ℕ)) → inverse from ≡ o → Last (onward (needed o wanted) (λ m. reduceFrom (length wanted) (length wanted) zero m)) → Closes n x y wanted ss
+      go : (o : Option (List ℕ)) → inverse from ≡ o → Last (andThen (needed o wanted) (λ m. reduceFrom (length wanted) (length wanted) zero m)) → Closes n x y wanted ss
       go none f g = absurd (Option·none-ne-some ss g)
       go (some inv) f g = more (reduceFrom (length wanted) (length wanted) zero start) refl g
         where

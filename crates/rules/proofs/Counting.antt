@@ -9,7 +9,7 @@ use lib.ListN.{length, getD, length-append, length-reverse}
 use lib.Dec.{eqb}
 use Rattle.rules.specs.Bit.{bit}
 use Rattle.rules.specs.Walk.{Step, cn}
-use Rattle.rules.specs.Close.{firstWith, andThen, Adds, note, clear, diagonal, onward, reduceFrom, eqRows, inverse, needed, times, closing}
+use Rattle.rules.specs.Close.{firstWith, andThen, Adds, note, clear, diagonal, reduceFrom, eqRows, inverse, needed, times, closing}
 use Rattle.rules.proofs.Bits.{split, same}
 
 abbrev pub size : Adds → ℕ
@@ -68,7 +68,7 @@ unfolding reduceFrom
 reduce-size n zero c m d h e = let s : m ≡ d = Option·some-injective m d e in omega (arith, ap size s)
 reduce-size n (suc k) c m d h e = go (diagonal n c m) refl e (λ m′ e′. reduce-size n k (suc c) m′ d (omega arith) e′)
   where
-    go : (o : Option Adds) → diagonal n c m ≡ o → onward o (λ z. reduceFrom n k (suc c) (clear c n zero z)) ≡ some d
+    go : (o : Option Adds) → diagonal n c m ≡ o → andThen o (λ z. reduceFrom n k (suc c) (clear c n zero z)) ≡ some d
         → ((m′ : Adds) → reduceFrom n k (suc c) m′ ≡ some d → size d ≤ size m′ + n * k) → size d ≤ size m + n * suc k
     go none f g ih = absurd (Option·none-ne-some d g)
     go (some z) f g ih =
@@ -84,9 +84,9 @@ closing-size from wanted ss e =
     (λ f. go (inverse from) (rw f at e))
   where
     Last : Option Adds → Type 0
-    Last o = onward o (λ m. some (reverse (m .adds))) ≡ some ss
+    Last o = andThen o (λ m. some (reverse (m .adds))) ≡ some ss
 
-    go : (o : Option (List ℕ)) → Last (onward (needed o wanted) (λ m. reduceFrom (length wanted) (length wanted) zero m)) → length ss ≤ length wanted * length wanted
+    go : (o : Option (List ℕ)) → Last (andThen (needed o wanted) (λ m. reduceFrom (length wanted) (length wanted) zero m)) → length ss ≤ length wanted * length wanted
     go none g = absurd (Option·none-ne-some ss g)
     go (some inv) g = more (reduceFrom (length wanted) (length wanted) zero start) refl g
       where

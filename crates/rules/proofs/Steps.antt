@@ -11,7 +11,7 @@ use Rattle.rules.specs.Gate.{Gate, gate2, codeCnot}
 use Rattle.rules.specs.Bit.{dot}
 use Rattle.rules.specs.Counts.{twos}
 use Rattle.rules.specs.Walk.{Step, cn, rot}
-use Rattle.rules.specs.Close.{Adds, times, eqRows, inverse, onward, needed, reduceFrom, closing}
+use Rattle.rules.specs.Close.{Adds, times, eqRows, inverse, andThen, needed, reduceFrom, closing}
 use Rattle.rules.specs.Synth.{rotation, emit}
 use Rattle.rules.proofs.Walking.{Within, within-append}
 use Rattle.rules.proofs.Closing.{at, anywhere, Pure, closing-ok}
@@ -72,7 +72,7 @@ module _ (from wanted : List ℕ) where
   closing-stuck e f = rw (e, f)
 
   pub closing-by : (inv : List ℕ) → eqRows from wanted ≡ false → inverse from ≡ some inv → closing from wanted
-      ≡ onward (reduceFrom (length wanted) (length wanted) zero (record { rows = map (λ v. times v zero inv) wanted; adds = [] })) (λ m. some (reverse (m .adds)))
+      ≡ andThen (reduceFrom (length wanted) (length wanted) zero (record { rows = map (λ v. times v zero inv) wanted; adds = [] })) (λ m. some (reverse (m .adds)))
   unfolding closing
   closing-by inv e f = rw (e, f)
 

@@ -7,11 +7,11 @@ use Rattle.rules.specs.Bit.{_⊕_, bit, sum, dot}
 use Rattle.rules.specs.Meaning.{Op, flip, phase, cnot, cz, other}
 use Rattle.rules.specs.Fold.{Row, Block, fresh, empty, joined, rowOf, addRow, join, entered, rowsBy, absorb, fold}
 use Rattle.rules.specs.Walk.{Step, cn, rot, held}
-use Rattle.rules.specs.Close.{addTo, swap, firstWith, units, times, Pairs, clearBoth, andThen, invertFrom, inverse, Adds, note, clear, diagonal, reduceFrom, eqRows, closing}
+use Rattle.rules.specs.Close.{addTo, swap, firstWith, units, times, Pairs, clearBoth, andThen, invertFrom, inverse, Adds, note, clear, diagonal, reduceFrom, eqRows, closing, Inverts}
 use Rattle.rules.specs.Synth.{synth, emit, flipsOf}
 use Rattle.rules.proofs.Folding.{wiresOf}
 use Rattle.rules.proofs.Blocks.{sizeOf, walkOf, parities, synth-is, walk-within}
-use Rattle.rules.proofs.Closing.{anywhere}
+use Rattle.rules.proofs.Closing.{anywhere, from-inverse}
 use mathlib.Core.Option.{Option, none, some, Option·none-ne-some}
 use Prim.Native.Nat.{ℕ, zero, suc, _+_, _-_, _^_, _≤_, _<_, zero-le, suc-le-suc}
 use native.Mathlib.Nat.{le-refl, not-suc-le-zero}
@@ -190,6 +190,13 @@ whole-clear n c (suc k) r m hc h s =
     (same r c (λ e f. rw f s) (λ e f. split (bit (at m r) c)
     (λ g. rw (f, g) (record { size = length-addTo c r m ∙ s .size; free = free-add n c r m (s .size) hc (omega arith) (λ q. e (sym q)) (s .free) }))
     (λ g. rw (f, g) s)))
+
+-- the inverse is one
+pub inverse-is : (m inv : List ℕ) → inverse m ≡ some inv → Inverts m inv
+inverse-is m inv e = record {
+  size = from-inverse (length m) (λ i. false) (λ i. dot (length m) (at m i) (λ j. false)) m m refl refl (λ i h. refl) inv e .0;
+  undoes = λ x y has. from-inverse (length m) x y m m refl refl has inv e .1;
+}
 
 unfoldable pub Found : {A : Type 0} → Option A → Type 0
 Found {A} o = (a : A) × (o ≡ some a)

@@ -1,11 +1,12 @@
 -- The closing map: the CNOTs that take the wires from the parities they hold to those wanted.
+use mathlib.Core.Path.{_≡_}
 use mathlib.Core.Bool.{Bool, true, false, not, _&&_, cond}
 use mathlib.Core.List.{List, [], _∷_, _++_, map, reverse}
 use mathlib.Core.Option.{Option, none, some}
-use Prim.Native.Nat.{ℕ, zero, suc, _+_, _-_, _^_}
+use Prim.Native.Nat.{ℕ, zero, suc, _+_, _-_, _^_, _<_}
 use lib.ListN.{length, getD, set}
 use lib.Dec.{eqb}
-use Rattle.rules.specs.Bit.{bit, xor}
+use Rattle.rules.specs.Bit.{bit, xor, dot}
 use Rattle.rules.specs.Walk.{Step, cn}
 
 -- row a is added to row b
@@ -33,6 +34,12 @@ unfolding bit
 times v r [] = zero
 times v r (x ∷ xs) = let rest = times v (suc r) xs in cond (bit v r) (xor x rest) rest
 
+-- what an inverse is: where the rows m make the values y of x, its rows make x again of y
+pub record Inverts (m inv : List ℕ) : Type 0 where
+  pub size : length inv ≡ length m
+  pub undoes : (x y : ℕ → Bool) → ((i : ℕ) → i < length m → y i ≡ dot (length m) (getD m i zero) x)
+      → (i : ℕ) → i < length m → dot (length m) (getD inv i zero) y ≡ x i
+
 -- ---- the inverse: rows with, beside each, the row that becomes the inverse's
 
 pub record Pairs : Type 0 where
@@ -47,9 +54,9 @@ clearBoth c (suc k) r m =
     clearBoth c k (suc r) (cond (not (eqb r c) && bit (getD (m .left) r zero) c) (record { left = addTo c r (m .left); right = addTo c r (m .right) }) m)
 
 -- go on with what was found
-abbrev pub andThen : {A : Type 0} → Option ℕ → (ℕ → Option A) → Option A
+abbrev pub andThen : {A B : Type 0} → Option A → (A → Option B) → Option B
 andThen none f = none
-andThen (some r) f = f r
+andThen (some a) f = f a
 
 -- columns c .. c + k - 1 of n; none where a column has no pivot
 unfoldable pub invertFrom : ℕ → ℕ → ℕ → Pairs → Option (List ℕ)
@@ -59,7 +66,7 @@ invertFrom n (suc k) c m =
     andThen (firstWith c (n - c) c (m .left))
     (λ r. invertFrom n k (suc c) (clearBoth c n zero (record { left = swap c r (m .left); right = swap c r (m .right) })))
 
--- the rows taken to the identity; what that makes of the identity is the inverse
+-- the rows taken to the identity; what that makes of the identity is the inverse (`inverse-is`: it inverts)
 unfoldable pub inverse : List ℕ → Option (List ℕ)
 unfolding invertFrom units
 inverse rows = let n = length rows in invertFrom n n zero (record { left = rows; right = units n zero })
@@ -87,15 +94,11 @@ diagonal n c m =
     let donor = andThen (firstWith c (n - suc c) (suc c) (m .rows)) (λ r. some (note r c m)) in
     cond (bit (getD (m .rows) c zero) c) (some m) donor
 
-abbrev pub onward : {A : Type 0} → Option Adds → (Adds → Option A) → Option A
-onward none f = none
-onward (some m) f = f m
-
 -- columns c .. c + k - 1 of n, ascending
 unfoldable pub reduceFrom : ℕ → ℕ → ℕ → Adds → Option Adds
 unfolding diagonal clear
 reduceFrom n zero c m = some m
-reduceFrom n (suc k) c m = onward (diagonal n c m) (λ d. reduceFrom n k (suc c) (clear c n zero d))
+reduceFrom n (suc k) c m = andThen (diagonal n c m) (λ d. reduceFrom n k (suc c) (clear c n zero d))
 
 unfoldable pub eqRows : List ℕ → List ℕ → Bool
 eqRows [] [] = true
@@ -105,13 +108,12 @@ eqRows (x ∷ xs) (y ∷ ys) = eqb x y && eqRows xs ys
 
 -- the map still needed: the wanted rows times the inverse of the rows held
 abbrev pub needed : Option (List ℕ) → List ℕ → Option Adds
-needed none wanted = none
-needed (some inv) wanted = some (record { rows = map (λ v. times v zero inv) wanted; adds = [] })
+needed inv wanted = andThen inv (λ m. some (record { rows = map (λ v. times v zero m) wanted; adds = [] }))
 
 -- nothing if the wires hold what is wanted; else the additions in reverse, each a CNOT from the added row to the changed one
 unfoldable pub closing : List ℕ → List ℕ → Option (List Step)
 unfolding eqRows inverse times reduceFrom
 closing from wanted =
     let n = length wanted in
-    let r = onward (onward (needed (inverse from) wanted) (λ m. reduceFrom n n zero m)) (λ m. some (reverse (m .adds))) in
+    let r = andThen (andThen (needed (inverse from) wanted) (λ m. reduceFrom n n zero m)) (λ m. some (reverse (m .adds))) in
     cond (eqRows from wanted) (some []) r

@@ -8,7 +8,7 @@ use Rattle.rules.specs.Gate.{Gate, gate1, gate2, codeX, codeT, codeTdg, 
 use Rattle.rules.specs.Meaning.{op}
 use Rattle.rules.specs.Fold.{Row, Block, empty, fold}
 use Rattle.rules.specs.Walk.{Step, cn, rot, phaseWalk, held}
-use Rattle.rules.specs.Close.{units, closing}
+use Rattle.rules.specs.Close.{units, andThen, closing}
 
 -- turns 1 to 7: t; s; s then t; z; z then t; sdg; tdg
 unfoldable pub rotation : ℕ → ℕ → List Gate
@@ -30,8 +30,7 @@ flipsOf [] = []
 flipsOf (r ∷ rs) = cond (r .flips) (gate1 codeX (r .wire) ∷ flipsOf rs) (flipsOf rs)
 
 abbrev pub withSteps : Option (List Step) → (List Step → List Gate) → Option (List Gate)
-withSteps none f = none
-withSteps (some c) f = some (f c)
+withSteps o f = andThen o (λ c. some (f c))
 
 -- walk, then closing map from the rows that the walk leaves to the block's own, then flips
 unfoldable pub synth : Block → Option (List Gate)
