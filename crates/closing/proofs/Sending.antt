@@ -20,6 +20,7 @@ use Rattle.rules.specs.Budget.{Budget}
 use Rattle.rules.proofs.Bits.{split}
 use Rattle.rules.proofs.Walking.{Within}
 use Rattle.rules.proofs.Closing.{anywhere, Pure}
+use Rattle.rules.proofs.Counting.{reduce-size}
 use Rattle.rules.proofs.Passing.{twos-append}
 use Rattle.rules.proofs.Steps.{emit-append, emit-one, pure-count, within-back, Ends, within-at, closing-same, closing-stuck, closing-by, closing-steps}
 use Rattle.emit.specs.Emitted.{Holds, Ready, Passes, dear, long, Emits}
@@ -27,7 +28,7 @@ use Rattle.emit.proofs.Appending.{emits-none}
 use Rattle.rows.specs.Rows.{given}
 use Rattle.rows.proofs.Room.{two-get}
 use Rattle.closing.specs.Additions.{stepsOf, wanted, Over, Made}
-use Rattle.closing.specs.Emission.{leftOf, Wired, Sent, backwards, Closes}
+use Rattle.closing.specs.Emission.{leftOf, Wired, Sent, backwards, reversed, neededRows, Sends, Closes}
 use Rattle.closing.proofs.Entries.{step-count}
 
 -- more CNOTs than the budget has left
@@ -90,24 +91,16 @@ module _ (ws steps : List ℕ) (k : ℕ) (fits : 2 * k ≤ length steps) where
 
 -- ---- the reduction's answer, as the closing map
 
-module _ (from to : List ℕ) (inv : List ℕ) (l : length from ≡ length to) (e : eqRows from to ≡ false) (f : inverse from ≡ some inv)
-    (rows : List ℕ) (g : rows ≡ map (λ v. times v 0 inv) to) where
-  reduced : closing from to ≡ andThen (wanted rows) (λ m. some (reverse (m .adds)))
-  reduced =
-      closing-by from to inv e f
-      ∙ ap (λ (n : ℕ). andThen (reduceFrom n n zero (record { rows = map (λ v. times v 0 inv) to; adds = [] })) (λ m. some (reverse (m .adds)))) (sym (length-map to (λ v. times v 0 inv)))
-      ∙ ap (λ (m : List ℕ). andThen (wanted m) (λ m. some (reverse (m .adds)))) (sym g)
-
+module _ (from to rows : List ℕ) (l : length from ≡ length to) (is : closing from to ≡ reversed rows) where
   -- it ended: the closing map is its additions in reverse
-  pub closing-made : (limit k : ℕ) (steps : List ℕ) → Made limit k (wanted rows) steps → closing from to ≡ some (backwards steps k)
+  closing-made : (limit k : ℕ) (steps : List ℕ) → Made limit k (wanted rows) steps → reversed rows ≡ some (backwards steps k)
   closing-made limit k steps m =
-      reduced ∙ ap (λ (o : Option Adds). andThen o (λ m. some (reverse (m .adds)))) (m .whole)
-      ∙ ap (λ (a : List Step). some (reverse a)) (sym (m .listed))
+      ap (λ (o : Option Adds). andThen o (λ m. some (reverse (m .adds)))) (m .whole) ∙ ap (λ (a : List Step). some (reverse a)) (sym (m .listed))
 
   pub made-sent : (limit k : ℕ) (names steps : List ℕ) → Made limit k (wanted rows) steps → 2 * k ≤ length steps → length names ≡ length to → Wired names → Sent names steps k
   made-sent limit k names steps m fits n w =
       let all : List Step = take k (stepsOf steps) in
-      let h = within-back (length to) anywhere anywhere all (closing-steps from to (reverse all) l (closing-made limit k steps m) .0) in
+      let h = within-back (length to) anywhere anywhere all (closing-steps from to (reverse all) l (is ∙ closing-made limit k steps m) .0) in
       record {
         wired = w;
         fits = fits;
@@ -116,25 +109,66 @@ module _ (from to : List ℕ) (inv : List ℕ) (l : length from ≡ length to) (
       }
 
   -- it was lost: no closing map, or one of more CNOTs than the limit
-  pub closing-lost : (limit : ℕ) (c : List Step) → Over limit (wanted rows) → closing from to ≡ some c → (limit < length c) × Pure c
-  closing-lost limit c o q = (go (wanted rows) o (sym reduced ∙ q), closing-steps from to c l q .1)
+  closing-lost : (limit : ℕ) (c : List Step) → Over limit (wanted rows) → reversed rows ≡ some c → (limit < length c) × Pure c
+  closing-lost limit c o q = (go (wanted rows) o q, closing-steps from to c l (is ∙ q) .1)
     where
       go : (z : Option Adds) → Over limit z → andThen z (λ m. some (reverse (m .adds))) ≡ some c → limit < length c
       go none o r = absurd (Option·none-ne-some c r)
       go (some d) o r = omega (arith, ap length (Option·some-injective (reverse (d .adds)) c r), length-reverse (d .adds))
 
+  module _ (names : List ℕ) (out : List ℤ) (b : Budget) where
+    pub sends-lost : Over (leftOf b) (wanted rows) → Sends (reversed rows) names out b out b false
+    sends-lost o = record { emits = λ c q. let h = closing-lost (leftOf b) c o q in emits-lost names c out b (h .1) (h .0); lost = λ q. refl }
+
+    pub sends-made : (limit k : ℕ) (steps : List ℕ) (out′ : List ℤ) (b′ : Budget) (w : Bool) → Made limit k (wanted rows) steps
+        → Emits (emit names (backwards steps k)) out b out′ b′ w → Sends (reversed rows) names out b out′ b′ w
+    sends-made limit k steps out′ b′ w m h =
+        let made = closing-made limit k steps m in
+        record {
+          emits = λ c q. subst (λ (s : List Step). Emits (emit names s) out b out′ b′ w) (Option·some-injective (backwards steps k) c (sym made ∙ q)) h;
+          lost = λ q. absurd (Option·none-ne-some (backwards steps k) (sym q ∙ made));
+        }
+
+-- n rows never take more than n squared additions, so that many are no limit
+pub over-square : (limit : ℕ) (rows : List ℕ) → Over (min limit (length rows * length rows)) (wanted rows) → Over limit (wanted rows)
+over-square limit rows o = go (wanted rows) refl o
+  where
+    go : (z : Option Adds) → wanted rows ≡ z → Over (min limit (length rows * length rows)) z → Over limit z
+    go none e o = tt
+    go (some d) e o = omega (arith, reduce-size (length rows) (length rows) zero (record { rows = rows; adds = [] }) d (omega arith) e)
+
+-- ---- the map that is needed, of the inversion's answer
+
+pub given-as : (b d : Bool) (rows : List ℕ) (o : Option (List ℕ)) → given b rows ≡ o → b ≡ d → given d rows ≡ o
+given-as b d rows o e f = ap (λ (z : Bool). given z rows) (sym f) ∙ e
+
+pub needed-none : (b : Bool) (inv from rows to : List ℕ) → given b inv ≡ inverse from → b ≡ false → given false rows ≡ neededRows (inverse from) to
+unfolding given
+needed-none true inv from rows to e f = absurd (true≢false f)
+needed-none false inv from rows to e f = ap (λ (o : Option (List ℕ)). neededRows o to) e
+
+pub needed-some : (b : Bool) (inv from rows to : List ℕ) → given b inv ≡ inverse from → b ≡ true → rows ≡ map (λ v. times v 0 inv) to → given true rows ≡ neededRows (inverse from) to
+unfolding given
+needed-some true inv from rows to e f g = ap some g ∙ ap (λ (o : Option (List ℕ)). neededRows o to) e
+needed-some false inv from rows to e f g = absurd (false≢true f)
+
+-- the map that is needed is reduced
+pub closes-needed : (from to rows : List ℕ) → eqRows from to ≡ false → given true rows ≡ neededRows (inverse from) to
+    → (closing from to ≡ reversed rows) × (length rows ≡ length to)
+unfolding given
+closes-needed from to rows e f = go (inverse from) refl f
+  where
+    go : (o : Option (List ℕ)) → inverse from ≡ o → given true rows ≡ neededRows o to → (closing from to ≡ reversed rows) × (length rows ≡ length to)
+    go none h f = absurd (Option·none-ne-some rows (sym f))
+    go (some inv) h f =
+        let g : rows ≡ map (λ v. times v 0 inv) to = Option·some-injective rows (map (λ v. times v 0 inv) to) f in (
+          closing-by from to inv e h
+              ∙ ap (λ (n : ℕ). andThen (reduceFrom n n zero (record { rows = map (λ v. times v 0 inv) to; adds = [] })) (λ m. some (reverse (m .adds)))) (sym (length-map to (λ v. times v 0 inv)))
+              ∙ ap reversed (sym g),
+          ap length g ∙ length-map to (λ v. times v 0 inv),
+        )
+
 -- ---- each way out
-
--- what an inversion answers
-pub inverse-found : (b : Bool) (rows : List ℕ) (o : Option (List ℕ)) → given b rows ≡ o → b ≡ true → o ≡ some rows
-unfolding given
-inverse-found true rows o e f = sym e
-inverse-found false rows o e f = absurd (false≢true f)
-
-pub inverse-none : (b : Bool) (rows : List ℕ) (o : Option (List ℕ)) → given b rows ≡ o → b ≡ false → o ≡ none
-unfolding given
-inverse-none true rows o e f = absurd (true≢false f)
-inverse-none false rows o e f = sym e
 
 module _ (from to names : List ℕ) (out : List ℤ) (b : Budget) where
   pub closes-same : eqRows from to ≡ true → Ready out b → Closes from to names out b out b true
@@ -145,26 +179,14 @@ module _ (from to names : List ℕ) (out : List ℤ) (b : Budget) where
         lost = λ q. absurd (Option·none-ne-some [] (sym q ∙ closing-same from to e));
       }
 
-  pub closes-stuck : eqRows from to ≡ false → inverse from ≡ none → Closes from to names out b out b false
-  closes-stuck e f = record { emits = λ c q. absurd (Option·none-ne-some c (sym (closing-stuck from to e f) ∙ q)); lost = λ q. refl }
-
-  module _ (inv : List ℕ) (l : length from ≡ length to) (e : eqRows from to ≡ false) (f : inverse from ≡ some inv)
-      (rows : List ℕ) (g : rows ≡ map (λ v. times v 0 inv) to) where
-    pub closes-lost : Over (leftOf b) (wanted rows) → Closes from to names out b out b false
-    closes-lost o =
-        record {
-          emits = λ c q. let h = closing-lost from to inv l e f rows g (leftOf b) c o q in emits-lost names c out b (h .1) (h .0);
-          lost = λ q. refl;
-        }
-
-    pub closes-made : (limit k : ℕ) (steps : List ℕ) (out′ : List ℤ) (b′ : Budget) (w : Bool) → Made limit k (wanted rows) steps
-        → Emits (emit names (backwards steps k)) out b out′ b′ w → Closes from to names out b out′ b′ w
-    closes-made limit k steps out′ b′ w m h =
-        let is = closing-made from to inv l e f rows g limit k steps m in
-        record {
-          emits = λ c q. subst (λ (s : List Step). Emits (emit names s) out b out′ b′ w) (Option·some-injective (backwards steps k) c (sym is ∙ q)) h;
-          lost = λ q. absurd (Option·none-ne-some (backwards steps k) (sym q ∙ is));
-        }
+  -- no map is needed that could be had
+  pub closes-stuck : (rows : List ℕ) → eqRows from to ≡ false → given false rows ≡ neededRows (inverse from) to → Closes from to names out b out b false
+  unfolding given
+  closes-stuck rows e f = record { emits = λ c q. absurd (Option·none-ne-some c (sym (closing-stuck from to e (go (inverse from) f)) ∙ q)); lost = λ q. refl }
+    where
+      go : (o : Option (List ℕ)) → given false rows ≡ neededRows o to → o ≡ none
+      go none f = refl
+      go (some inv) f = absurd (Option·none-ne-some _ f)
 
 -- made, so there is a closing map, and room for more
 pub closes-ready : (from to names : List ℕ) (out : List ℤ) (b : Budget) (out′ : List ℤ) (b′ : Budget) → Closes from to names out b out′ b′ true → Ready out′ b′

@@ -4,14 +4,15 @@ use budget::Pushed;
 use join::Local;
 use rows::Found;
 ghost use mathlib.Core.Path.{_≡_};
-ghost use Prim.Native.Nat.{_+_, _*_, _≤_, _<_};
+ghost use Prim.Native.Nat.{_+_, _*_, _≤_, _<_, min};
 ghost use lib.ListN.{length};
+ghost use Rattle.rules.specs.Close.{inverse};
 ghost use Rattle.rules.specs.Synth as Synth;
 ghost use Rattle.budget.specs.View.{view};
 ghost use Rattle.emit.specs.Emitted.{Ready, Emits};
-ghost use Rattle.rows.specs.Rows.{rowsOf};
+ghost use Rattle.rows.specs.Rows.{rowsOf, given};
 ghost use Rattle.closing.specs.Additions.{Noted, Given, Reduced};
-ghost use Rattle.closing.specs.Emission.{leftOf, Sent, backwards, Rooms, Closes};
+ghost use Rattle.closing.specs.Emission.{leftOf, Sent, backwards, Matrices, neededRows, reversed, Sendable, Sends, Rooms, Closes};
 
 // How many additions were written; lost where there is no end, or they would pass the limit.
 pub enum Closed {
@@ -89,6 +90,15 @@ fn left_of(b: Budget) -> usize
     if two < all { two } else { all }
 }
 
+// The most additions that are of use for n rows: n squared is enough for any map.
+fn limit_of(left: usize, n: usize) -> usize
+    requires { ⌜ n ≤ 128 ⌝ }
+    ensures { λ r. ⌜ r ≡ min left (n * n) ⌝ }
+{
+    let square = n * n;
+    if left < square { left } else { square }
+}
+
 // The first k additions of the room as CNOTs, from the added row to the changed one, the last addition first.
 fn emit_steps(names: &[u32], steps: &[u32], k: usize, out: &mut [i32], b: Budget) -> Pushed
     requires { ⌜ Ready (now out) (view b) ⌝ }
@@ -115,7 +125,35 @@ fn emit_steps(names: &[u32], steps: &[u32], k: usize, out: &mut [i32], b: Budget
     }
 }
 
-// Emits the CNOTs that take the rows `held` to the rows `wanted`. Once inverted, `held` is spent, so the map still needed goes there.
+// The map still needed, the wanted rows times the inverse of those held, in their place; false where they have none.
+fn needed(held: &mut [u64], wanted: &[u64], right: &mut [u64]) -> bool
+    requires { ⌜ Matrices (now held) (now wanted) (now right) ⌝ }
+    ensures { λ r. ⌜ given r (rowsOf (now (held .exit))) ≡ neededRows (inverse (rowsOf (now (held .entry)))) (rowsOf (now (wanted .entry))) ⌝ }
+{
+    if !rows::invert_into(&mut *held, &mut *right) {
+        return false;
+    }
+    rows::products(wanted, &*right, held);
+    true
+}
+
+// The rows of `m` taken to the identity, and the additions emitted in reverse.
+fn send(m: &mut [u64], names: &[u32], steps: &mut [u32], out: &mut [i32], b: Budget) -> Pushed
+    requires { ⌜ Ready (now out) (view b) ⌝ }
+    requires { ⌜ Sendable (now m) (now names) (now steps) (b .maxall) ⌝ }
+    ensures { λ r. ⌜ Sends (reversed (rowsOf (now (m .entry)))) (now (names .entry)) (now (out .entry)) (view b) (now (out .exit)) (view (r .budget)) (r .within) ⌝ }
+{
+    let limit = limit_of(left_of(b), m.len() / 2);
+    let Closed::Steps(k) = reduce(m, &mut *steps, limit) else {
+        return Pushed {
+            budget: b,
+            within: false,
+        };
+    };
+    emit_steps(names, &*steps, k, out, b)
+}
+
+// Emits the CNOTs that take the rows `held` to the rows `wanted`.
 pub fn linear_synth(
     held: &mut [u64],
     wanted: &[u64],
@@ -129,23 +167,17 @@ pub fn linear_synth(
     requires { ⌜ Rooms (now held) (now wanted) (now right) (now names) (now steps) (b .maxall) ⌝ }
     ensures { λ r. ⌜ Closes (rowsOf (now (held .entry))) (rowsOf (now (wanted .entry))) (now (names .entry)) (now (out .entry)) (view b) (now (out .exit)) (view (r .budget)) (r .within) ⌝ }
 {
-    let idle = Pushed {
-        budget: b,
-        within: true,
-    };
-    let lost = Pushed {
-        budget: b,
-        within: false,
-    };
     if rows::equal(&*held, wanted) {
-        return idle;
+        return Pushed {
+            budget: b,
+            within: true,
+        };
     }
-    if !rows::invert_into(&mut *held, &mut *right) {
-        return lost;
+    if !needed(&mut *held, wanted, right) {
+        return Pushed {
+            budget: b,
+            within: false,
+        };
     }
-    rows::products(wanted, &*right, &mut *held);
-    let Closed::Steps(k) = reduce(&mut *held, &mut *steps, left_of(b)) else {
-        return lost;
-    };
-    emit_steps(names, &*steps, k, out, b)
+    send(held, names, steps, out, b)
 }

@@ -15,7 +15,7 @@ use Rattle.terms.specs.Terms.{termsOf}
 use Rattle.rows.specs.Rows.{rowsOf}
 use Rattle.emit.specs.Emitted.{Emits}
 use Rattle.walk.specs.Stack.{nodeWidth}
-use Rattle.closing.specs.Emission.{Wired}
+use Rattle.closing.specs.Emission.{Wired, stepRoom}
 use Rattle.block.specs.declared.Block as State
 
 -- rooms of the block's n wires for its walk: their names, a matrix, the terms, a node more than wires
@@ -33,7 +33,7 @@ pub record Rooms (b : State.Block) (names rows room nodes from spare steps : Lis
   pub wide : length rows ≡ 2 * b .wires
   pub below : (i : ℕ) → i < b .wires → getD (rowsOf rows) i 0 < 2 ^ b .wires
   pub right : length spare ≡ 2 * b .wires
-  pub long : 2 * (most + 1) ≤ length steps
+  pub long : stepRoom most (b .wires) ≤ length steps
 
 -- the block's resynthesis, emitted; where it has none, lost
 pub record Synthesizes (bl : Block) (out : List ℤ) (b : Budget) (out′ : List ℤ) (b′ : Budget) (within : Bool) : Type 0 where

@@ -65,13 +65,15 @@ linear-synth-requires c κs = let s = (c .before .before .before .before .before
     let h = walked (c .before .before .before .before) in (
       h .ready refl,
       record {
-        few = omega (arith, p .walkable .few);
-        held = (c .before .before .before .before .before .before .before .before .before .before .before .before .before) .emit-walk .kept .1 .1 .1 .1 .0 ∙ p .walkable .held ∙ sym (p .wide);
-        right = p .right ∙ sym (p .wide);
+        matrices = record {
+          few = omega (arith, p .walkable .few);
+          held = (c .before .before .before .before .before .before .before .before .before .before .before .before .before) .emit-walk .kept .1 .1 .1 .1 .0 ∙ p .walkable .held ∙ sym (p .wide);
+          right = p .right ∙ sym (p .wide);
+          below = λ i l. rw n (p .below i (rw n at l));
+        };
         named = p .walkable .named ∙ sym n;
         wired = p .walkable .wired;
-        below = λ i l. rw n (p .below i (rw n at l));
-        steps = omega (arith, p .long, h .maxAll);
+        steps = rw (n, h .maxAll) (p .long);
       },
     )
 
