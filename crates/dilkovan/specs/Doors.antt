@@ -10,7 +10,7 @@ use Rattle.cnot_min.specs.Minimizing.{told, Minimizes}
 use Rattle.cnot_min.specs.declared.Answer.{Answer}
 use Rattle.cnot_min.specs.declared.Answer.the-variants.{Refused, Done}
 use Rattle.list.specs.Answer.{answer}
-use Rattle.list.specs.Told.{Lists}
+use Rattle.list.specs.Contracts.{Lists}
 
 -- 0 where it is done; else the refusal's number * 2^32 + its place
 abbrev pub coded : Paper.Answer → ℕ

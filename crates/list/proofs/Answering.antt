@@ -22,16 +22,18 @@ use Rattle.cnot_min.specs.Minimizing.{told, counted, Minimizes}
 use Rattle.cnot_min.specs.declared.Counts.{Counts}
 use Rattle.cnot_min.specs.declared.Answer as Code
 use Rattle.cnot_min.specs.declared.Answer.the-variants.{Refused, Done}
-use Rattle.printing.specs.Texts.{resultText}
-use Rattle.reading.specs.Reading.{Head, Read, read, listBytes, listGates, readText}
-use Rattle.reading.specs.Told as Told
-use Rattle.reading.specs.Told.{ReadsText, headOf, answered, met}
-use Rattle.reading.specs.declared.Head as HeadIs
+use Rattle.spelling.specs.Sizes.{listBytes, listGates}
+use Rattle.spelling.specs.Texts.{Head, resultText}
+use Rattle.spelling.specs.Reading.{Read, read, readText}
+use Rattle.spelling.specs.Heads.{headOf}
+use Rattle.spelling.specs.declared.Head as HeadIs
+use Rattle.spelling.proofs.Spelling.{text-read}
+use Rattle.reading.specs.Contracts as Reads
+use Rattle.reading.specs.Contracts.{ReadsText, answered, met}
 use Rattle.reading.specs.declared.Read as ReadIs
 use Rattle.reading.specs.declared.Read.the-variants.{Good}
-use Rattle.reading.proofs.Spelling.{text-read}
-use Rattle.list.specs.Answer.{headNumbers, countNumbers, refusal, judged, listed, readAs, answer}
-use Rattle.list.specs.Told.{Few, Small}
+use Rattle.list.specs.Answer.{countNumbers, refusal, judged, listed, readAs, answer}
+use Rattle.list.specs.Contracts.{Few, Small}
 use Rattle.rules.proofs.Accepting.{placeOf, verdict-place}
 use Rattle.list.proofs.Few.{counts-small}
 
@@ -70,7 +72,7 @@ pub record Made (h : Head) (l out′ : List ℤ) (c : Counts) : Type 0 where
   pub small : Small c
   pub fits : (rest : List ℤ) → width * c .gatesout ≤ length (out′ ++ rest)
   pub text : (rest : List ℤ) → take (width * c .gatesout) (out′ ++ rest) ≡ numbersOf (pass (h .qubits) (h .terms) (gatesOf l) .gates)
-  pub shows : listed h l ≡ record { refused = false; text = resultText (headNumbers h) (numbersOf (pass (h .qubits) (h .terms) (gatesOf l) .gates)) (countNumbers (counted c)) }
+  pub shows : listed h l ≡ record { refused = false; text = resultText h (numbersOf (pass (h .qubits) (h .terms) (gatesOf l) .gates)) (countNumbers (counted c)) }
 
 -- ---- a list that was read, in rooms exactly as long as it needs
 
@@ -123,7 +125,7 @@ module _ (h : Head) (l out : List ℤ) (terms steps : List ℕ) (a : Code.Answer
         text = λ rest.
             ap (λ (x : List ℤ). take (width * c .gatesout) (x ++ rest)) (room ∙ append-assoc (numbersOf (new .gates)) zeros _) ∙ ap (take (width * c .gatesout)) (append-assoc (numbersOf (new .gates)) _ rest)
             ∙ take-at (numbersOf (new .gates)) _ (width * c .gatesout) long;
-        shows = listed-at h l accepted is ∙ ap (λ (k : Pass.Counts). record { refused = false; text = resultText (headNumbers h) (numbersOf (new .gates)) (countNumbers k) }) (sym same);
+        shows = listed-at h l accepted is ∙ ap (λ (k : Pass.Counts). record { refused = false; text = resultText h (numbersOf (new .gates)) (countNumbers k) }) (sym same);
       }
 
 -- ---- a text
@@ -132,7 +134,7 @@ pub answer-long : (text : List ℕ) → listBytes < length text → answer text 
 unfolding answer
 answer-long text h = rw (lt-ltb listBytes (length text) h)
 
-pub answer-read : (text : List ℕ) (r : Read) → length text ≤ listBytes → r ≡ readText text → answer text ≡ readAs r
+pub answer-read : (text : List ℕ) (r : Read) → length text ≤ listBytes → r ≡ readText listGates text → answer text ≡ readAs r
 unfolding answer
 answer-read text r h e = rw (le-ltb listBytes (length text) h) (ap readAs (sym e))
 
@@ -140,15 +142,15 @@ answer-read text r h e = rw (le-ltb listBytes (length text) h) (ap readAs (sym e
 pub record GoodRead (text : List ℕ) (room′ : List ℤ) (h : HeadIs.Head) (n : ℕ) : Type 0 where
   pub fits : width * n ≤ length room′
   pub few : Few (take (width * n) room′)
-  pub is : read (headOf h) (take (width * n) room′) ≡ readText text
+  pub is : read (headOf h) (take (width * n) room′) ≡ readText listGates text
 
-pub good-read : (text : List ℕ) (room room′ : List ℤ) (r : ReadIs.Read) (h : HeadIs.Head) (n : ℕ) → ReadsText text room room′ r → r ≡ Good h n → GoodRead text room′ h n
+pub good-read : (text : List ℕ) (room room′ : List ℤ) (r : ReadIs.Read) (h : HeadIs.Head) (n : ℕ) → ReadsText text listGates room room′ r → r ≡ Good h n → GoodRead text room′ h n
 good-read text room room′ r h n t e =
-    let is : read (headOf h) (take (width * n) room′) ≡ readText text = ap (answered room′) (sym e) ∙ t .answer in
-    let size : length (met text) ≡ width * n = subst (Told.Counts (met text)) e (t .counts) in
-    let l = text-read (headOf h) (take (width * n) room′) text (sym is) .1 in
+    let is : read (headOf h) (take (width * n) room′) ≡ readText listGates text = ap (answered room′) (sym e) ∙ t .answer in
+    let size : length (met listGates 1 text) ≡ width * n = subst (Reads.Counts (met listGates 1 text)) e (t .counts) in
+    let l = text-read listGates (headOf h) (take (width * n) room′) text (sym is) .1 in
     record {
-      fits = omega (arith, ap length (t .numbers), length-append (met text) (drop (length (met text)) room));
+      fits = omega (arith, ap length (t .numbers), length-append (met listGates 1 text) (drop (length (met listGates 1 text)) room));
       few = record { whole = l .whole; few = l .few };
       is = is;
     }

@@ -9,7 +9,8 @@ use lib.ListN.{replicate}
 use Rattle.rules.specs.Bit.{xor}
 use Rattle.text.specs.Bytes.{bytes, lf, first}
 use Rattle.text.specs.Reading.{word, ended, naturalLine, countLine}
-use Rattle.reading.specs.Reading.{listBytes, headAt, row, rows, readText}
+use Rattle.spelling.specs.Sizes.{listBytes}
+use Rattle.spelling.specs.Reading.{headAt, row, rows, readText}
 use Rattle.list.specs.Answer.{answer}
 
 -- a text, and what is printed for it
@@ -86,6 +87,6 @@ unfolding answer readText headAt row rows word ended naturalLine countLine xor
 worked = refl
 
 -- what begins with an r is a refusal
-pub told : map (λ (c : Case). answer (c .text) .refused) cases ≡ map (λ (c : Case). eqb (first (c .prints)) (code "r")) cases
+pub refusals : map (λ (c : Case). answer (c .text) .refused) cases ≡ map (λ (c : Case). eqb (first (c .prints)) (code "r")) cases
 unfolding answer readText headAt row rows word ended naturalLine countLine xor
-told = refl
+refusals = refl

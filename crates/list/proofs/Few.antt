@@ -14,8 +14,8 @@ use Rattle.rules.proofs.Output.{output-length}
 use Rattle.rules.proofs.Resynthesis.{promised}
 use Rattle.cnot_min.specs.Minimizing.{counted}
 use Rattle.cnot_min.specs.declared.Counts.{Counts}
-use Rattle.reading.specs.Reading.{listGates}
-use Rattle.list.specs.Told.{Small}
+use Rattle.spelling.specs.Sizes.{listGates}
+use Rattle.list.specs.Contracts.{Small}
 
 twos-few : (gs : List Gate) → twos gs ≤ length gs
 unfolding twos

@@ -1,5 +1,7 @@
 mod Cases
 mod Places
 mod Few
+mod Turns
+mod Keeping
 mod Answering
 pub mod Saying

@@ -9,8 +9,9 @@ use Rattle.rules.specs.Limits as Limits
 use Rattle.rules.specs.Limits.{width}
 use Rattle.rules.proofs.Bits.{split}
 use Rattle.text.specs.Reading.{Found, none, found, onward, word, naturalLine, countLine}
-use Rattle.reading.specs.Lines.{Lines, bad, good, line}
-use Rattle.reading.specs.Reading.{Head, headWord, gatesWord, headAt, row, Rows, rows, Read, malformed, many, read, listGates, finished, counted, headed, readText}
+use Rattle.spelling.specs.Lines.{Lines, bad, good, line}
+use Rattle.spelling.specs.Texts.{Head, gatesWord}
+use Rattle.spelling.specs.Reading.{headLine, headAt, row, Rows, rows, Front, wrong, large, list, Read, malformed, many, read, gathered, counted, headed, listAt, ending, readText}
 
 -- the number of the wrong line, or of the next one
 abbrev number : {A : Type 0} → Lines A → ℕ
@@ -25,7 +26,7 @@ line-number k m (found v left) next h f = f v left
 head-number : (k : ℕ) (bs : List ℕ) → number (headAt k bs) ≤ k + 5
 unfolding headAt
 head-number k bs =
-    line-number k (k + 5) (word headWord bs) _ (omega arith) (λ u a.
+    line-number k (k + 5) (word headLine bs) _ (omega arith) (λ u a.
     line-number (suc k) (k + 5) (naturalLine a) _ (omega arith) (λ x b.
     line-number (suc (suc k)) (k + 5) (naturalLine b) _ (omega arith) (λ y c.
     line-number (suc (suc (suc k))) (k + 5) (naturalLine c) _ (omega arith) (λ z d.
@@ -46,21 +47,32 @@ lineOf (malformed k) = k
 lineOf (many k) = k
 lineOf (read h ns) = 0
 
-finished-line : (h : Head) (ns : List ℤ) (o : Lines Unit) → lineOf (finished h ns o) ≤ number o
-finished-line h ns (bad k) = omega arith
-finished-line h ns (good u k []) = omega arith
-finished-line h ns (good u k (b ∷ bs)) = omega arith
+-- the wrong line's number, or the next one's
+abbrev frontLine : Front → ℕ
+frontLine (wrong k) = k
+frontLine (large k) = k
+frontLine (list h ns k left) = k
 
-counted-line : (h : Head) (k : ℕ) (o : Found ℕ) → lineOf (counted h k o) ≤ suc k + listGates
-counted-line h k none = omega arith
-counted-line h k (found n left) =
-    split (ltb listGates n) (λ e. rw e (omega arith))
-    (λ e. rw e (omega (arith, ltb-false listGates n e, rows-number n (suc k) left, finished-line h (rows n (suc k) left .numbers) (rows n (suc k) left .behind))))
+gathered-line : (h : Head) (ns : List ℤ) (o : Lines Unit) → frontLine (gathered h ns o) ≤ number o
+gathered-line h ns (bad k) = omega arith
+gathered-line h ns (good u k left) = omega arith
 
-headed-line : (o : Lines Head) → number o ≤ 6 → lineOf (headed o) ≤ 7 + listGates
-headed-line (bad k) h = omega arith
-headed-line (good v k left) h = omega (arith, counted-line v k (countLine gatesWord left))
+counted-line : (most : ℕ) (h : Head) (k : ℕ) (o : Found ℕ) → frontLine (counted most h k o) ≤ suc k + most
+counted-line most h k none = omega arith
+counted-line most h k (found n left) =
+    split (ltb most n) (λ e. rw e (omega arith))
+    (λ e. rw e (omega (arith, ltb-false most n e, rows-number n (suc k) left, gathered-line h (rows n (suc k) left .numbers) (rows n (suc k) left .behind))))
 
-pub text-line : (bs : List ℕ) → lineOf (readText bs) ≤ 7 + listGates
-unfolding readText
-text-line bs = headed-line (headAt 1 bs) (head-number 1 bs)
+headed-line : (most m : ℕ) (o : Lines Head) → number o ≤ m → frontLine (headed most o) ≤ suc m + most
+headed-line most m (bad k) h = omega arith
+headed-line most m (good v k left) h = omega (arith, counted-line most v k (countLine gatesWord left))
+
+ending-line : (o : Front) → lineOf (ending o) ≤ frontLine o
+ending-line (wrong k) = omega arith
+ending-line (large k) = omega arith
+ending-line (list h ns k []) = omega arith
+ending-line (list h ns k (b ∷ bs)) = omega arith
+
+pub text-line : (most : ℕ) (bs : List ℕ) → lineOf (readText most bs) ≤ 7 + most
+unfolding readText listAt
+text-line most bs = omega (arith, ending-line (listAt most 1 bs), headed-line most 6 (headAt 1 bs) (head-number 1 bs))

@@ -1,12 +1,24 @@
--- For callers: what was printed lies in the room.
-use mathlib.Core.Path.{ap}
+-- From what was printed to what is said of the room; and for callers, that it lies in the room.
+use mathlib.Core.Path.{refl, ap, _∙_}
+use mathlib.Core.Bool.{Bool}
 use mathlib.Core.List.{List}
 use Prim.Native.Nat.{ℕ, _≤_}
+use native.Mathlib.Nat.{zero-add}
 use native.Mathlib.Omega.{arith}
 use lib.ListN.{length, drop, length-append}
+use Rattle.text.specs.Contracts.{Prints}
 use Rattle.list.specs.Answer.{Answer}
-use Rattle.list.specs.Told.{Says}
+use Rattle.list.specs.Contracts.{Says}
 use Rattle.list.specs.declared.Listed.{Listed}
+
+pub says-printed : (refused : Bool) (most : ℕ) (new room room′ : List ℕ) (n : ℕ) → most ≤ length room → Prints most new room 0 room′ n
+    → Says (record { refused = refused; text = new }) room (record { length = n; refused = refused }) room′
+says-printed refused most new room room′ n h p = record {
+  text = p .writes .text ∙ rw zero-add;
+  size = p .writes .behind ∙ rw zero-add;
+  fits = omega (arith, p .writes .behind, p .short);
+  refused = refl;
+}
 
 pub says-fits : (a : Answer) (room : List ℕ) (r : Listed) (room′ : List ℕ) → Says a room r room′ → r .length ≤ length room′
 says-fits a room r room′ s = omega (arith, s .size, ap length (s .text), length-append (a .text) (drop (length (a .text)) room))

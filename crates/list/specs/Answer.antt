@@ -11,20 +11,23 @@ use Rattle.rules.specs.Numbers.{gatesOf, numbersOf}
 use Rattle.rules.specs.Refusal.{Verdict, accepted, refused, verdict}
 use Rattle.rules.specs.Scan.{Result}
 use Rattle.rules.specs.Pass.{Counts, pass, counts}
-use Rattle.reading.specs.Reading.{Head, Read, malformed, many, read, listBytes, readText}
-use Rattle.printing.specs.Texts.{resultText, refusalText}
+use Rattle.spelling.specs.Sizes.{listBytes, listGates}
+use Rattle.spelling.specs.Texts.{Head, resultText, refusalText}
+use Rattle.spelling.specs.Reading.{Read, malformed, many, read, readText}
 
 -- the bytes that are printed, and whether they are a refusal
 pub record Answer : Type 0 where
   pub refused : Bool
   pub text : List ℕ
 
+-- a refusal's number and place
 abbrev pub refusal : ℕ → ℕ → Answer
-refusal number place = record { refused = true; text = refusalText number place }
+refusal number place = record { refused = true; text = refusalText (number ∷ place ∷ []) }
 
--- wires, bits, qubit cap, term cap
-abbrev pub headNumbers : Head → List ℕ
-headNumbers h = h .wires ∷ h .bits ∷ h .qubits ∷ h .terms ∷ []
+-- refusals in their order: the first whose test holds; where none does, what comes else
+abbrev pub firstOf : {R : Type 0} → List (Bool × R) → R → R
+firstOf [] else = else
+firstOf (test ∷ others) else = let later = firstOf others else in cond (test .0) (test .1) later
 
 -- the eight counts, in their order
 abbrev pub countNumbers : Counts → List ℕ
@@ -32,14 +35,14 @@ countNumbers c = c .gatesIn ∷ c .gatesOut ∷ c .twosIn ∷ c .twosOut ∷ c .
 
 -- the head as read, the new gates, and the counts
 abbrev pub result : Head → List Gate → Result → Answer
-result h gs new = record { refused = false; text = resultText (headNumbers h) (numbersOf (new .gates)) (countNumbers (counts gs new)) }
+result h gs new = record { refused = false; text = resultText h (numbersOf (new .gates)) (countNumbers (counts gs new)) }
 
 abbrev pub judged : Verdict → Head → List Gate → Answer
 judged (refused r) h gs = refusal (r .number) (r .place)
 judged accepted h gs = result h gs (pass (h .qubits) (h .terms) gs)
 
 -- a list that was read gets rooms exactly as long as it needs: only 3, and 6 to 9 with the gate's index, can come
--- (`three-or-gates` among the proofs of `reading`)
+-- (`three-or-gates` among the proofs of `spelling`)
 unfoldable pub listed : Head → List ℤ → Answer
 unfolding verdict gatesOf numbersOf pass counts resultText refusalText
 listed h numbers =
@@ -55,4 +58,4 @@ readAs (read h numbers) = listed h numbers
 -- 10: a text above 16,384 bytes; then line by line; then 3 and 6 to 9
 unfoldable pub answer : List ℕ → Answer
 unfolding readText listed refusalText
-answer text = cond (ltb listBytes (length text)) (refusal 10 0) (readAs (readText text))
+answer text = firstOf ((ltb listBytes (length text), refusal 10 0) ∷ []) (readAs (readText listGates text))

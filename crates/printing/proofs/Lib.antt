@@ -1,3 +1,1 @@
-mod Cases
-mod Sizes
-mod Begun
+mod Rows

@@ -1,3 +1,2 @@
--- What the list program prints, and what the functions that write it say.
-pub mod Texts
-pub mod Told
+-- What the functions that print ask and say.
+pub mod Contracts

@@ -1,10 +1,17 @@
-// What the list program prints, written into a lent room.
+// A list, what stands beside it and a refusal, written into a lent room.
 use rules::GATE_WIDTH;
+use spelling::Head;
 ghost use mathlib.Core.Path.{_≡_};
-ghost use Prim.Native.Nat.{_+_, _*_, _≤_, _<_};
+ghost use mathlib.Core.Bool.{cond};
+ghost use Prim.Native.Nat.{_+_, _-_, _*_, _/_, _≤_, _<_};
+ghost use lib.Dec.{eqb};
 ghost use lib.ListN.{length};
-ghost use Rattle.printing.specs.Texts as Texts;
-ghost use Rattle.printing.specs.Told.{lineSize, numberSize, mostNumbers, roomSize, Prints, Section, Gates, Printable, Printed};
+ghost use Rattle.rules.specs.Limits.{width};
+ghost use Rattle.text.specs.Bytes.{lf, blank};
+ghost use Rattle.text.specs.Contracts.{Prints, lineSize, namedSize, numberSize};
+ghost use Rattle.spelling.specs.Texts as Texts;
+ghost use Rattle.spelling.specs.Heads.{headOf};
+ghost use Rattle.printing.specs.Contracts.{sectionSize, gatesSize, listSize, resultSize, Section, Gates, Listable, Printable};
 
 // Numbers, one to a line.
 fn write_lines(out: &mut [u8], at: usize, values: &[u32]) -> usize
@@ -24,35 +31,50 @@ fn write_lines(out: &mut [u8], at: usize, values: &[u32]) -> usize
 // A word and how many numbers come; then the numbers.
 fn write_section(out: &mut [u8], at: usize, word: &[u8], values: &[u32]) -> usize
     requires { ⌜ Section (now word) (now values) (now out) at ⌝ }
-    ensures { λ r. ⌜ Prints (length (now (word .entry)) + lineSize + lineSize * length (now (values .entry))) (Texts.sectionText (now (word .entry)) (now (values .entry))) (now (out .entry)) at (now (out .exit)) r ⌝ }
+    ensures { λ r. ⌜ Prints (sectionSize (length (now (word .entry))) (length (now (values .entry)))) (Texts.sectionText (now (word .entry)) (now (values .entry))) (now (out .entry)) at (now (out .exit)) r ⌝ }
 {
-    let next = text::write_count(&mut *out, at, word, values.len() as u32);
+    let count = [values.len() as u32];
+    let next = text::write_named(&mut *out, at, word, &count);
     write_lines(out, next, values)
 }
 
-// What ends number i of a list.
-fn end_of(i: usize) -> u8
-    requires { ⌜ i < mostNumbers ⌝ }
-    ensures { λ r. ⌜ r ≡ Texts.endOf i ⌝ }
+// What ends number k of a line of n.
+fn end_of(k: usize, n: usize) -> u8
+    requires { ⌜ k < n ⌝ }
+    ensures { λ r. ⌜ r ≡ cond (eqb (n - (k + 1)) 0) lf blank ⌝ }
 {
-    if (i + 1) % GATE_WIDTH == 0 {
-        b'\n'
-    } else {
-        b' '
+    if k + 1 < n { b' ' } else { b'\n' }
+}
+
+// A line of signed numbers.
+fn write_row(out: &mut [u8], at: usize, row: &[i32]) -> usize
+    requires { ⌜ at + numberSize * length (now row) ≤ length (now out) ⌝ }
+    ensures { λ r. ⌜ Prints (numberSize * length (now (row .entry))) (Texts.rowText (now (row .entry))) (now (out .entry)) at (now (out .exit)) r ⌝ }
+{
+    let n = row.len();
+    let mut next = at;
+    let mut k = 0;
+    while k < n {
+        next = text::write_ended(&mut *out, next, row[k], end_of(k, n));
+        k += 1;
     }
+    next
 }
 
 // A line for each gate.
-fn write_numbers(out: &mut [u8], at: usize, numbers: &[i32]) -> usize
-    requires { ⌜ length (now numbers) ≤ mostNumbers ⌝ }
+fn write_rows(out: &mut [u8], at: usize, numbers: &[i32]) -> usize
     requires { ⌜ at + numberSize * length (now numbers) ≤ length (now out) ⌝ }
-    ensures { λ r. ⌜ Prints (numberSize * length (now (numbers .entry))) (Texts.numbersText 0 (now (numbers .entry))) (now (out .entry)) at (now (out .exit)) r ⌝ }
+    ensures { λ r. ⌜ Prints (numberSize * length (now (numbers .entry))) (Texts.rowsText (length (now (numbers .entry)) / width) (now (numbers .entry))) (now (out .entry)) at (now (out .exit)) r ⌝ }
 {
-    let n = numbers.len();
+    let n = numbers.len() / GATE_WIDTH;
     let mut next = at;
     let mut i = 0;
     while i < n {
-        next = text::write_ended(&mut *out, next, numbers[i], end_of(i));
+        next = write_row(
+            &mut *out,
+            next,
+            &numbers[GATE_WIDTH * i..GATE_WIDTH * (i + 1)],
+        );
         i += 1;
     }
     next
@@ -60,29 +82,36 @@ fn write_numbers(out: &mut [u8], at: usize, numbers: &[i32]) -> usize
 
 fn write_gates(out: &mut [u8], at: usize, numbers: &[i32]) -> usize
     requires { ⌜ Gates (now numbers) (now out) at ⌝ }
-    ensures { λ r. ⌜ Prints (6 + lineSize + numberSize * length (now (numbers .entry))) (Texts.gatesText (now (numbers .entry))) (now (out .entry)) at (now (out .exit)) r ⌝ }
+    ensures { λ r. ⌜ Prints (gatesSize (length (now (numbers .entry)))) (Texts.gatesText (now (numbers .entry))) (now (out .entry)) at (now (out .exit)) r ⌝ }
 {
-    let count = numbers.len() / GATE_WIDTH;
-    let next = text::write_count(&mut *out, at, b"gates ", count as u32);
-    write_numbers(out, next, numbers)
+    let count = [(numbers.len() / GATE_WIDTH) as u32];
+    let next = text::write_named(&mut *out, at, b"gates", &count);
+    write_rows(out, next, numbers)
 }
 
-// The head as read, the new gates, and the counts.
-pub fn write_result(out: &mut [u8], head: &[u32], numbers: &[i32], counts: &[u32]) -> usize
-    requires { ⌜ Printable (now head) (now numbers) (now counts) (now out) ⌝ }
-    ensures { λ r. ⌜ Printed (Texts.resultText (now (head .entry)) (now (numbers .entry)) (now (counts .entry))) (now (out .entry)) (now (out .exit)) r ⌝ }
+// The head, and the gates.
+pub fn write_list(out: &mut [u8], at: usize, head: Head, numbers: &[i32]) -> usize
+    requires { ⌜ Listable (now numbers) (now out) at ⌝ }
+    ensures { λ r. ⌜ Prints (listSize (length (now (numbers .entry)))) (Texts.listText (headOf head) (now (numbers .entry))) (now (out .entry)) at (now (out .exit)) r ⌝ }
 {
-    let gates = write_section(&mut *out, 0, b"head ", head);
-    let last = write_gates(&mut *out, gates, numbers);
-    write_section(out, last, b"counts ", counts)
+    let values = [head.wires, head.bits, head.qubits, head.terms];
+    let gates = write_section(&mut *out, at, b"head", &values);
+    write_gates(out, gates, numbers)
 }
 
-pub fn write_refusal(out: &mut [u8], number: u32, place: u32) -> usize
-    requires { ⌜ roomSize ≤ length (now out) ⌝ }
-    ensures { λ r. ⌜ Printed (Texts.refusalText number place) (now (out .entry)) (now (out .exit)) r ⌝ }
+// A list, and its counts.
+pub fn write_result(out: &mut [u8], at: usize, head: Head, numbers: &[i32], counts: &[u32]) -> usize
+    requires { ⌜ Printable (now numbers) (now counts) (now out) at ⌝ }
+    ensures { λ r. ⌜ Prints (resultSize (length (now (numbers .entry))) (length (now (counts .entry)))) (Texts.resultText (headOf head) (now (numbers .entry)) (now (counts .entry))) (now (out .entry)) at (now (out .exit)) r ⌝ }
 {
-    let first = text::write_word(&mut *out, 0, b"refused ");
-    let second = text::write_natural(&mut *out, first, number);
-    let third = text::write_byte(&mut *out, second, b' ');
-    text::write_line(out, third, place)
+    let last = write_list(&mut *out, at, head, numbers);
+    write_section(out, last, b"counts", counts)
+}
+
+// A refusal: its number, and what comes with it.
+pub fn write_refusal(out: &mut [u8], at: usize, numbers: &[u32]) -> usize
+    requires { ⌜ at + namedSize 7 (length (now numbers)) ≤ length (now out) ⌝ }
+    ensures { λ r. ⌜ Prints (namedSize 7 (length (now (numbers .entry)))) (Texts.refusalText (now (numbers .entry))) (now (out .entry)) at (now (out .exit)) r ⌝ }
+{
+    text::write_named(out, at, b"refused", numbers)
 }

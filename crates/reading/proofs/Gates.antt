@@ -1,28 +1,24 @@
 -- The gates' lines: a number more, a line more, and the room that they go into.
 use mathlib.Core.Path.{_≡_, refl, sym, _∙_}
-use mathlib.Core.Bool.{Bool, true, false, cond}
+use mathlib.Core.Bool.{Bool, true, false}
 use mathlib.Core.List.{List, [], _∷_, _++_}
 use Prim.Native.Nat.{ℕ, zero, suc, _+_, _-_, _*_, _≤_, _<_}
 use native.Mathlib.Nat.{zero-add}
 use native.Mathlib.Omega.{arith}
-use lib.Dec.{eqb}
 use lib.IntN.{ℤ}
 use lib.ListN.{length, drop, set, length-append}
 use Rattle.rules.specs.Limits.{width}
 use Rattle.rules.specs.Pass.{over}
-use Rattle.text.specs.Bytes.{lf, blank, pasted}
+use Rattle.text.specs.Bytes.{pasted}
 use Rattle.text.specs.Reading.{Found, none, found, onward, ended}
 use Rattle.text.proofs.Lines.{absent}
 use Rattle.text.proofs.Pasting.{pasted-front, pasted-both}
-use Rattle.reading.specs.Lines.{bad, good}
-use Rattle.reading.specs.Reading.{Row, row, Rows, rows}
-use Rattle.reading.specs.Told.{ReadsRow}
+use Rattle.spelling.specs.Lines.{bad, good}
+use Rattle.spelling.specs.Reading.{Row, row, Rows, rows}
+use Rattle.spelling.proofs.Spelling.{ends}
+use Rattle.reading.specs.Contracts.{ReadsRow}
 
 -- ---- a number of a line
-
--- what ends the number behind which k more come
-abbrev pub ends : ℕ → ℕ
-ends k = cond (eqb k 0) lf blank
 
 module _ (n k : ℕ) (bs : List ℕ) (h : k < n) where
   pub row-more : (v : ℤ) (left : List ℕ) → ended (ends (n - (k + 1))) bs ≡ found v left
@@ -45,10 +41,10 @@ row-end n k bs h =
     rw s
 
 -- one more number in the room
-pub row-turn : (room : List ℤ) (to n k : ℕ) (bs : List ℕ) (v : ℤ) (left : List ℕ) → k < n → to + k < length room → ended (ends (n - (k + 1))) bs ≡ found v left
+pub row-once : (room : List ℤ) (to n k : ℕ) (bs : List ℕ) (v : ℤ) (left : List ℕ) → k < n → to + k < length room → ended (ends (n - (k + 1))) bs ≡ found v left
     → (row (n - (k + 1)) left .behind ≡ row (n - k) bs .behind)
     × (pasted (set room (to + k) v) (to + (k + 1)) (row (n - (k + 1)) left .numbers) ≡ pasted room (to + k) (row (n - k) bs .numbers))
-row-turn room to n k bs v left h fits e =
+row-once room to n k bs v left h fits e =
     let m = row-more n k bs h v left e in
     let j : to + (k + 1) ≡ to + k + 1 = omega arith in
     (rw m, rw (m, j) (pasted-front room (to + k) v (row (n - (k + 1)) left .numbers) fits))
@@ -103,11 +99,11 @@ rows-size (suc n) k bs = go (row width bs .behind) (λ left. rows-size n (suc k)
     go (found u left) m = let others = m left in simp length-append (omega (arith, row-sized width bs .most))
 
 -- one more line in the room
-pub rows-turn : (room room′ : List ℤ) (n i line : ℕ) (bs : List ℕ) (u : Unit) (left : List ℕ) → i < n → width * n ≤ length room
+pub rows-once : (room room′ : List ℤ) (n i line : ℕ) (bs : List ℕ) (u : Unit) (left : List ℕ) → i < n → width * n ≤ length room
     → row width bs .behind ≡ found u left → room′ ≡ pasted room (width * i) (row width bs .numbers)
     → (rows (n - (i + 1)) (line + (i + 1)) left .behind ≡ rows (n - i) (line + i) bs .behind)
     × (pasted room′ (width * (i + 1)) (rows (n - (i + 1)) (line + (i + 1)) left .numbers) ≡ pasted room (width * i) (rows (n - i) (line + i) bs .numbers))
-rows-turn room room′ n i line bs u left h fits e is =
+rows-once room room′ n i line bs u left h fits e is =
     let m = rows-more n i (line + i) bs h u left e in
     let k : suc (line + i) ≡ line + (i + 1) = omega arith in
     let full = row-sized width bs .full u left e in

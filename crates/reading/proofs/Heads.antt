@@ -7,10 +7,10 @@ use native.Mathlib.Nat.{add-zero}
 use native.Mathlib.Omega.{arith}
 use lib.ListN.{drop}
 use Rattle.text.specs.Reading.{word, naturalLine}
-use Rattle.text.specs.Told.{Reads}
-use Rattle.reading.specs.Lines.{bad, good}
-use Rattle.reading.specs.Reading.{headWord, headAt}
-use Rattle.reading.specs.Told.{right}
+use Rattle.text.specs.Contracts.{Reads}
+use Rattle.spelling.specs.Lines.{bad, good}
+use Rattle.spelling.specs.Reading.{headLine, headAt}
+use Rattle.reading.specs.Contracts.{right}
 
 pub right-le : (a b c d e : Bool) → right a b c d e ≤ 5
 right-le false b c d e = omega arith
@@ -22,7 +22,7 @@ right-le true true true true true = omega arith
 
 module _ (text : List ℕ) (k : ℕ) (bs : List ℕ) (w x y z i j l m n : ℕ) where
   pub head-lines : (a b c d e : Bool)
-      → Reads text (word headWord bs) a tt i
+      → Reads text (word headLine bs) a tt i
       → Reads text (naturalLine (drop i text)) b w j
       → Reads text (naturalLine (drop j text)) c x l
       → Reads text (naturalLine (drop l text)) d y m

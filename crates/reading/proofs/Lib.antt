@@ -1,5 +1,3 @@
 mod Heads
 mod Gates
 mod Texts
-pub mod Spelling
-pub mod Verdicts

@@ -1,23 +1,27 @@
--- The whole text, by where its reading ends.
-use mathlib.Core.Path.{_≡_, refl, sym, ap, _∙_}
-use mathlib.Core.Bool.{Bool, true, false, _&&_, cond}
-use mathlib.Core.List.{List, [], _++_}
+-- A list, by where its reading ends; and the whole text.
+use mathlib.Core.Path.{_≡_, refl, sym, ap, _∙_, subst}
+use mathlib.Core.Logic.{_≢_}
+use mathlib.Core.Bool.{Bool, true, false}
+use mathlib.Core.List.{List, [], _∷_, _++_}
 use Prim.Native.Nat.{ℕ, zero, suc, _+_, _*_, _≤_, _<_}
 use native.Mathlib.Numerals.{add-one}
 use native.Mathlib.Omega.{arith}
-use borrow.Author.Tests.{lt-ltb, le-ltb, eqb-true, eqb-false}
-use lib.Dec.{eqb}
+use borrow.Author.Tests.{lt-ltb, le-ltb}
 use lib.IntN.{ℤ}
-use lib.ListN.{length, take, drop, length-append, drop-of-length-le}
+use lib.ListN.{length, getD, take, drop, length-append, drop-of-length-le}
 use lib.Seq.{take-at, drop-cons}
 use Rattle.rules.specs.Limits.{width}
 use Rattle.rules.specs.Pass.{over}
-use Rattle.rules.proofs.Bits.{and-left, and-right}
 use Rattle.text.specs.Reading.{Found, none, found, onward, countLine}
-use Rattle.reading.specs.Lines.{Lines, bad, good}
-use Rattle.reading.specs.Reading.{Head, row, Rows, rows, malformed, read, gatesWord, listGates, headAt, finished, readText}
-use Rattle.reading.specs.Told.{ReadsLines, ReadsRows, ReadsText, met, headOf}
-use Rattle.reading.specs.declared.Head as Code
+use Rattle.spelling.specs.Lines.{Lines, bad, good}
+use Rattle.spelling.specs.Texts.{Head, gatesWord}
+use Rattle.spelling.specs.Reading.{row, Rows, rows, list, headAt, gathered, listAt, ending, readText}
+use Rattle.spelling.specs.Heads.{headOf}
+use Rattle.spelling.specs.declared.Head as Code
+use Rattle.spelling.proofs.Spelling.{apart}
+use Rattle.reading.specs.Contracts.{ReadsLines, ReadsRows, ReadsList, ReadsText, met}
+use Rattle.reading.specs.declared.Front.{Front}
+use Rattle.reading.specs.declared.Front.the-variants.{Wrong, Large, Whole}
 use Rattle.reading.specs.declared.Read.the-variants.{Malformed, Many, Good}
 use Rattle.reading.proofs.Gates.{row-sized}
 
@@ -31,9 +35,6 @@ module _ {A : Type 0} (text : List ℕ) (meant : Lines A) (ok : Bool) (v : A) (l
   lines-no e = sym (r .exact) ∙ rw e
 
 -- lines that are all right have all their numbers
-pub apart : {A : Type 0} {P : Type 0} (i : ℕ) (v : A) (k : ℕ) (left : List ℕ) → bad i ≡ good v k left → P
-apart i v k left h = let z : _≡_ {A = ℕ} 0 1 = cc in absurd (omega arith)
-
 rows-full : (n k : ℕ) (bs : List ℕ) (u : Unit) (i : ℕ) (left : List ℕ) → rows n k bs .behind ≡ good u i left → length (rows n k bs .numbers) ≡ width * n
 unfolding rows
 rows-full zero k bs u i left h = refl
@@ -46,52 +47,76 @@ rows-full (suc n) k bs u i left h = go (row width bs .behind) (row-sized width b
     go none f g h = apart k u i left h
     go (found w rest) f g h = simp length-append (omega (arith, f w rest refl, g rest h))
 
--- ---- the five ways
+-- ---- a list: the five ways
 
-module _ (text : List ℕ) (room : List ℤ) where
-  pub bad-head : (k : ℕ) → headAt 1 text ≡ bad k → ReadsText text room room (Malformed k)
-  unfolding readText met
-  bad-head k e = record { answer = rw e; counts = tt; numbers = rw e }
+module _ (text : List ℕ) (at line most : ℕ) (room : List ℤ) where
+  pub bad-head : (k : ℕ) → headAt line (drop at text) ≡ bad k → ReadsList text at line most room room (Wrong k)
+  unfolding listAt met
+  bad-head k e = record { answer = rw e; ends = tt; numbers = rw e }
 
-  pub bad-count : (h : Head) (k : ℕ) (left : List ℕ) → headAt 1 text ≡ good h k left → countLine gatesWord left ≡ none → ReadsText text room room (Malformed k)
-  unfolding readText met
-  bad-count h k left e f = record { answer = rw (e, f); counts = tt; numbers = rw (e, f) }
+  pub bad-count : (h : Head) (k : ℕ) (left : List ℕ) → headAt line (drop at text) ≡ good h k left → countLine gatesWord left ≡ none → ReadsList text at line most room room (Wrong k)
+  unfolding listAt met
+  bad-count h k left e f = record { answer = rw (e, f); ends = tt; numbers = rw (e, f) }
 
-  module _ (h : Code.Head) (k : ℕ) (left : List ℕ) (n : ℕ) (rest : List ℕ) (e : headAt 1 text ≡ good (headOf h) k left) (f : countLine gatesWord left ≡ found n rest) where
-    pub too-many : listGates < n → ReadsText text room room (Many k)
-    unfolding readText met
-    too-many g = record { answer = rw (e, f, lt-ltb listGates n g); counts = tt; numbers = rw (e, f, lt-ltb listGates n g) }
+  module _ (h : Code.Head) (k : ℕ) (left : List ℕ) (n : ℕ) (rest : List ℕ) (e : headAt line (drop at text) ≡ good (headOf h) k left) (f : countLine gatesWord left ≡ found n rest) where
+    pub too-many : most < n → ReadsList text at line most room room (Large k)
+    unfolding listAt met
+    too-many g = record { answer = rw (e, f, lt-ltb most n g); ends = tt; numbers = rw (e, f, lt-ltb most n g) }
 
-    module _ (g : n ≤ listGates) (room′ : List ℤ) (ok : Bool) (line next : ℕ) (r : ReadsRows text (rows n (k + 1) rest) room room′ ok line next) where
-      met-is : met text ≡ rows n (suc k) rest .numbers
+    module _ (g : n ≤ most) (room′ : List ℤ) (ok : Bool) (last next : ℕ) (r : ReadsRows text (rows n (k + 1) rest) room room′ ok last next) where
+      met-is : met most line (drop at text) ≡ rows n (suc k) rest .numbers
       unfolding met
-      met-is = rw (e, f, le-ltb listGates n g)
+      met-is = rw (e, f, le-ltb most n g)
 
-      stands : room′ ≡ over (met text) room
+      stands : room′ ≡ over (met most line (drop at text)) room
       stands = r .numbers ∙ rw (met-is, add-one k)
 
-      ends-in : readText text ≡ finished (headOf h) (rows n (suc k) rest .numbers) (rows n (suc k) rest .behind)
-      unfolding readText
-      ends-in = rw (e, f, le-ltb listGates n g)
+      comes-to : listAt most line (drop at text) ≡ gathered (headOf h) (rows n (suc k) rest .numbers) (rows n (suc k) rest .behind)
+      unfolding listAt
+      comes-to = rw (e, f, le-ltb most n g)
 
-      pub all-read : (ok && eqb next (length text)) ≡ true → ReadsText text room room′ (Good h n)
+      pub all-read : ok ≡ true → ReadsList text at line most room room′ (Whole h n last next)
       all-read t =
-          let end : next ≡ length text = eqb-true next (length text) (and-right ok (eqb next (length text)) t) in
-          let last = lines-ok text (rows n (k + 1) rest .behind) ok tt line next (r .lines) (and-left ok (eqb next (length text)) t) in
-          let far : length text ≤ next = omega arith in
-          let none-left : drop next text ≡ [] = drop-of-length-le text far in
-          let done : rows n (suc k) rest .behind ≡ good tt line [] = rw (add-one k, none-left) at last in
+          let done : rows n (suc k) rest .behind ≡ good tt last (drop next text) = rw (add-one k) at (lines-ok text (rows n (k + 1) rest .behind) ok tt last next (r .lines) t) in
           let numbers = rows n (suc k) rest .numbers in
-          let full : length numbers ≡ width * n = rows-full n (suc k) rest tt line [] done in
+          let full : length numbers ≡ width * n = rows-full n (suc k) rest tt last (drop next text) done in
           let first : take (width * n) room′ ≡ numbers = rw (r .numbers, add-one k) (take-at numbers (drop (length numbers) room) (width * n) full) in
-          record { answer = ap (λ (ns : List ℤ). read (headOf h) ns) first ∙ sym (ends-in ∙ rw done); counts = ap length met-is ∙ full; numbers = stands }
+          record {
+            answer = ap (λ (ns : List ℤ). list (headOf h) ns last (drop next text)) first ∙ sym (comes-to ∙ rw done);
+            ends = (ap length met-is ∙ full, r .lines .within);
+            numbers = stands;
+          }
 
-      pub not-all : (ok && eqb next (length text)) ≡ false → ReadsText text room room′ (Malformed line)
-      not-all t = record { answer = sym (ends-in ∙ go ok t (rw (add-one k) at (r .lines .exact))); counts = tt; numbers = stands }
-        where
-          go : (ok : Bool) → (ok && eqb next (length text)) ≡ false → cond ok (good tt line (drop next text)) (bad line) ≡ rows n (suc k) rest .behind
-              → finished (headOf h) (rows n (suc k) rest .numbers) (rows n (suc k) rest .behind) ≡ malformed line
-          go false t q = rw (← q)
-          go true t q =
-              let more : next < length text = omega (arith, r .lines .within, eqb-false next (length text) t) in
-              rw (← q, drop-cons text next 0 more)
+      pub not-all : ok ≡ false → ReadsList text at line most room room′ (Wrong last)
+      not-all t =
+          let stop : rows n (suc k) rest .behind ≡ bad last = rw (add-one k) at (lines-no text (rows n (k + 1) rest .behind) ok tt last next (r .lines) t) in
+          record { answer = sym (comes-to ∙ rw stop); ends = tt; numbers = stands }
+
+-- ---- the whole text, by what its list comes to
+
+pub front-is : (text : List ℕ) (at line most : ℕ) (room room′ : List ℤ) (r x : Front) → r ≡ x → ReadsList text at line most room room′ r → ReadsList text at line most room room′ x
+front-is text at line most room room′ r x e h = subst (λ (y : Front). ReadsList text at line most room room′ y) e h
+
+module _ (text : List ℕ) (most : ℕ) (room room′ : List ℤ) where
+  pub text-wrong : (k : ℕ) → ReadsList text 0 1 most room room′ (Wrong k) → ReadsText text most room room′ (Malformed k)
+  unfolding readText
+  text-wrong k r = record { answer = ap ending (r .answer); counts = tt; numbers = r .numbers }
+
+  pub text-large : (k : ℕ) → ReadsList text 0 1 most room room′ (Large k) → ReadsText text most room room′ (Many k)
+  unfolding readText
+  text-large k r = record { answer = ap ending (r .answer); counts = tt; numbers = r .numbers }
+
+  module _ (h : Code.Head) (n k next : ℕ) (r : ReadsList text 0 1 most room room′ (Whole h n k next)) where
+    left-is : (left : List ℕ) → drop next text ≡ left → ending (list (headOf h) (take (width * n) room′) k left) ≡ readText most text
+    unfolding readText
+    left-is left e = ap (λ (x : List ℕ). ending (list (headOf h) (take (width * n) room′) k x)) (sym e) ∙ ap ending (r .answer)
+
+    pub text-whole : next ≡ length text → ReadsText text most room room′ (Good h n)
+    text-whole e =
+        let far : length text ≤ next = omega arith in
+        record { answer = left-is [] (drop-of-length-le text far); counts = r .ends .0; numbers = r .numbers }
+
+    pub text-surplus : next ≢ length text → ReadsText text most room room′ (Malformed k)
+    text-surplus e =
+        let more : next < length text = omega (arith, r .ends .1, e) in
+        record { answer = left-is (getD text next 0 ∷ drop (suc next) text) (drop-cons text next 0 more); counts = tt; numbers = r .numbers }

@@ -1,5 +1,2 @@
--- The list program: what it reads.
-pub mod Lines
-pub mod Reading
-pub mod Printing
-pub mod Told
+-- What the functions that read a list's text ask and say.
+pub mod Contracts

@@ -1,5 +1,6 @@
-// The list program's text, read line by line.
+// The text of a list, read line by line.
 use rules::GATE_WIDTH;
+use spelling::Head;
 use text::Place;
 ghost use mathlib.Core.Path.{_≡_};
 ghost use mathlib.Core.Bool.{cond};
@@ -8,20 +9,10 @@ ghost use lib.Dec.{eqb};
 ghost use lib.ListN.{length, drop};
 ghost use Rattle.rules.specs.Limits.{width};
 ghost use Rattle.text.specs.Bytes.{lf, blank};
-ghost use Rattle.reading.specs.Reading as Spec;
-ghost use Rattle.reading.specs.Told as Told;
-ghost use Rattle.reading.specs.Told.{ReadsLines, ReadsRow, ReadsRows, ReadsText};
-
-// The most gates of a list.
-pub const LIST_GATES: u32 = 512;
-
-// As read: neither cap is clamped here.
-pub struct Head {
-    pub wires: u32,
-    pub bits: u32,
-    pub qubits: u32,
-    pub terms: u32,
-}
+ghost use Rattle.spelling.specs.Reading as Spec;
+ghost use Rattle.spelling.specs.Heads.{headOf};
+ghost use Rattle.reading.specs.Contracts as Contracts;
+ghost use Rattle.reading.specs.Contracts.{ReadsLines, ReadsRow, ReadsRows, Legible, ReadsList, ReadsText};
 
 // The head's lines: whether they are right, the number of the next line or of the wrong one, and the next place.
 struct Heading {
@@ -38,6 +29,14 @@ struct Rows {
     pub next: usize,
 }
 
+// A list from a place on: a line is malformed or missing: its number; too many gates: the line of `gates`; or the head, how many gates,
+// the number of the next line, and the next place.
+pub enum Front {
+    Wrong(usize),
+    Large(usize),
+    Whole(Head, usize, usize, usize),
+}
+
 // A line is malformed, missing or surplus: its number; too many gates: the line of `gates`; or the head, and how many gates.
 pub enum Read {
     Malformed(usize),
@@ -47,7 +46,7 @@ pub enum Read {
 
 // How many lines of the head are right before the first that isn't.
 fn right(first: bool, wires: bool, bits: bool, qubits: bool, terms: bool) -> usize
-    ensures { λ r. ⌜ r ≡ Told.right first wires bits qubits terms ⌝ }
+    ensures { λ r. ⌜ r ≡ Contracts.right first wires bits qubits terms ⌝ }
 {
     if !first {
         0
@@ -67,7 +66,7 @@ fn right(first: bool, wires: bool, bits: bool, qubits: bool, terms: bool) -> usi
 // Where a line isn't right, those behind it are looked at all the same, and don't count.
 fn read_head(text: &[u8], at: usize, line: usize) -> Heading
     requires { ⌜ (at ≤ length (now text)) × (line < 2 ^ 32) ⌝ }
-    ensures { λ r. ⌜ ReadsLines (now (text .entry)) (Spec.headAt line (drop at (now (text .entry)))) (r .ok) (Told.headOf (r .head)) (r .line) (r .next) × (r .line < 2 ^ 33) ⌝ }
+    ensures { λ r. ⌜ ReadsLines (now (text .entry)) (Spec.headAt line (drop at (now (text .entry)))) (r .ok) (headOf (r .head)) (r .line) (r .next) × (r .line < 2 ^ 33) ⌝ }
 {
     let first = text::read_word(text, at, b"head 4\n");
     let wires = text::read_line(text, first.next);
@@ -145,32 +144,50 @@ fn read_rows(text: &[u8], at: usize, line: usize, n: usize, numbers: &mut [i32])
     }
 }
 
-// The whole text. The gates' numbers go into the room, which holds those of the most gates.
-pub fn read_text(text: &[u8], numbers: &mut [i32]) -> Read
-    requires { ⌜ width * Spec.listGates ≤ length (now numbers) ⌝ }
-    ensures { λ r. ⌜ ReadsText (now (text .entry)) (now (numbers .entry)) (now (numbers .exit)) r ⌝ }
+// A list from a place and a line on. The gates' numbers go into the room, which holds those of the most gates.
+pub fn read_list(text: &[u8], at: usize, line: usize, most: usize, numbers: &mut [i32]) -> Front
+    requires { ⌜ Legible (now text) at line most (now numbers) ⌝ }
+    ensures { λ r. ⌜ ReadsList (now (text .entry)) at line most (now (numbers .entry)) (now (numbers .exit)) r ⌝ }
 {
-    let h = read_head(text, 0, 1);
+    let h = read_head(text, at, line);
     let ok = h.ok;
     let head = h.head;
     let line = h.line;
     if !ok {
-        return Read::Malformed(line);
+        return Front::Wrong(line);
     }
-    let n = text::read_count(text, h.next, b"gates ");
+    let n = text::read_count(text, h.next, b"gates");
     let found = n.ok;
-    let count = n.value;
+    let count = n.value as usize;
     if !found {
-        return Read::Malformed(line);
+        return Front::Wrong(line);
     }
-    if LIST_GATES < count {
-        return Read::Many(line);
+    if most < count {
+        return Front::Large(line);
     }
-    let r = read_rows(text, n.next, line + 1, count as usize, numbers);
-    let end = r.next;
-    if r.ok & (end == text.len()) {
-        Read::Good(head, count as usize)
+    let r = read_rows(text, n.next, line + 1, count, numbers);
+    let last = r.line;
+    if r.ok {
+        Front::Whole(head, count, last, r.next)
     } else {
-        Read::Malformed(r.line)
+        Front::Wrong(last)
+    }
+}
+
+// The whole text, of a list of at most so many gates.
+pub fn read_text(text: &[u8], most: usize, numbers: &mut [i32]) -> Read
+    requires { ⌜ width * most ≤ length (now numbers) ⌝ }
+    ensures { λ r. ⌜ ReadsText (now (text .entry)) most (now (numbers .entry)) (now (numbers .exit)) r ⌝ }
+{
+    match read_list(text, 0, 1, most, numbers) {
+        Front::Wrong(line) => Read::Malformed(line),
+        Front::Large(line) => Read::Many(line),
+        Front::Whole(head, n, line, end) => {
+            if end == text.len() {
+                Read::Good(head, n)
+            } else {
+                Read::Malformed(line)
+            }
+        }
     }
 }

@@ -3,7 +3,7 @@ use mathlib.Core.Path.{_≡_, refl}
 use mathlib.Core.List.{[], _∷_, map}
 use lib.IntN.{pos, negsuc}
 use Rattle.text.specs.Bytes.{bytes}
-use Rattle.text.specs.Printing.{printed}
+use Rattle.text.specs.Printing.{printed, namedText}
 use Rattle.text.specs.Reading.{none, found, natural, integer, countLine}
 
 -- both ends of the range
@@ -27,8 +27,14 @@ pub naturals : map natural (bytes "2147483647\n" ∷ bytes "2147483648\n" ∷ by
 unfolding natural
 naturals = refl
 
--- a word, a number, LF
-pub counted : map (countLine (bytes "gates ")) (bytes "gates 513\n2 0" ∷ bytes "gates 2" ∷ bytes "gates  2\n" ∷ bytes "gates 2 \n" ∷ bytes "gates 2\r\n" ∷ bytes "gate 2\n" ∷ [])
+-- a word, a blank, a number, LF
+pub counted : map (countLine (bytes "gates")) (bytes "gates 513\n2 0" ∷ bytes "gates 2" ∷ bytes "gates  2\n" ∷ bytes "gates 2 \n" ∷ bytes "gates 2\r\n" ∷ bytes "gate 2\n" ∷ [])
     ≡ found 513 (bytes "2 0") ∷ none ∷ none ∷ none ∷ none ∷ none ∷ []
 unfolding countLine
 counted = refl
+
+-- none, one, two, four numbers behind a word
+pub named : namedText (bytes "x") [] ∷ map (namedText (bytes "refused")) ((7 ∷ []) ∷ (12 ∷ 6 ∷ []) ∷ (0 ∷ 4294967295 ∷ 10 ∷ 3 ∷ []) ∷ [])
+    ≡ bytes "x\n" ∷ bytes "refused 7\n" ∷ bytes "refused 12 6\n" ∷ bytes "refused 0 4294967295 10 3\n" ∷ []
+unfolding namedText
+named = refl

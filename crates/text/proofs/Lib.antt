@@ -6,3 +6,5 @@ pub mod Lines
 mod Scanning
 pub mod Readings
 pub mod Pasting
+pub mod Sizes
+pub mod Begun

@@ -1,7 +1,7 @@
--- Words and lines, both ways: what was printed is read back, and what is accepted is what would be printed. And how long numbers are.
-use mathlib.Core.Path.{_≡_, refl, sym, _∙_}
+-- Words and lines, both ways: what was printed is read back, and what is accepted is what would be printed.
+use mathlib.Core.Path.{_≡_, refl, sym, ap, _∙_}
 use mathlib.Core.Bool.{false}
-use mathlib.Core.List.{List, [], _∷_, _++_, append-assoc}
+use mathlib.Core.List.{List, [], _∷_, _++_, append-assoc, append-nil}
 use Prim.Native.Nat.{ℕ, suc, _+_, _≤_}
 use native.Mathlib.Omega.{arith}
 use borrow.Author.Tests.{eqb-true}
@@ -10,13 +10,10 @@ use lib.IntN.{ℤ, pos, negsuc}
 use lib.ListN.{length}
 use lib.Signed.{mag}
 use Rattle.rules.proofs.Bits.{split, eqb-self}
-use Rattle.text.specs.Bytes.{lf, isDigit}
-use Rattle.text.specs.Printing.{decimal, printed, endedText, lineText, countText}
+use Rattle.text.specs.Bytes.{lf, blank, isDigit}
+use Rattle.text.specs.Printing.{decimal, printed, endedText, lineText, namedText}
 use Rattle.text.specs.Reading.{Found, none, found, onward, largest, natural, integer, word, ended, naturalLine, countLine}
-use Rattle.text.proofs.Decimals.{decimal-long}
 use Rattle.text.proofs.Grammar.{read-decimal, decimal-read, read-printed, printed-read}
-
--- ---- how long
 
 -- ---- words
 
@@ -80,17 +77,22 @@ line-read n left bs h =
 
 -- ---- a word and a count
 
-behind-word : (w bs : List ℕ) → countLine w (w ++ bs) ≡ naturalLine bs
+one-named : (w : List ℕ) (n : ℕ) → namedText w (n ∷ []) ≡ w ++ blank ∷ lineText n
+unfolding namedText lineText
+one-named w n = ap (λ (l : List ℕ). w ++ (blank ∷ (l ++ lf ∷ []))) (append-nil (decimal n))
+
+behind-word : (w bs : List ℕ) → countLine w (w ++ blank ∷ bs) ≡ naturalLine bs
 unfolding countLine
-behind-word w bs = rw (read-word w bs)
+behind-word w bs = rw (read-word w (blank ∷ bs))
 
-pub read-count : (w : List ℕ) (n : ℕ) (rest : List ℕ) → n ≤ largest → countLine w (countText w n ++ rest) ≡ found n rest
-unfolding countText
-read-count w n rest h = rw (append-assoc w (lineText n) rest) (behind-word w (lineText n ++ rest) ∙ read-line n rest h)
+pub read-count : (w : List ℕ) (n : ℕ) (rest : List ℕ) → n ≤ largest → countLine w (namedText w (n ∷ []) ++ rest) ≡ found n rest
+read-count w n rest h = rw (one-named w n, append-assoc w (blank ∷ lineText n) rest) (behind-word w (lineText n ++ rest) ∙ read-line n rest h)
 
-pub count-read : (w : List ℕ) (n : ℕ) (left bs : List ℕ) → countLine w bs ≡ found n left → (bs ≡ countText w n ++ left) × (n ≤ largest)
-unfolding countLine countText
+pub count-read : (w : List ℕ) (n : ℕ) (left bs : List ℕ) → countLine w bs ≡ found n left → (bs ≡ namedText w (n ∷ []) ++ left) × (n ≤ largest)
+unfolding countLine
 count-read w n left bs h =
-    let o = goes-on (word w bs) (λ u rest. naturalLine rest) n left h in
-    let l = line-read n left (o .1 .0) (o .1 .1 .1) in
-    (word-read w bs (o .1 .0) (o .0) (o .1 .1 .0) ∙ rw (l .0) (sym (append-assoc w (lineText n) left)), l .1)
+    let o = goes-on (word w bs) (λ u rest. onward (word (blank ∷ []) rest) none (λ u behind. naturalLine behind)) n left h in
+    let p = goes-on (word (blank ∷ []) (o .1 .0)) (λ u behind. naturalLine behind) n left (o .1 .1 .1) in
+    let l = line-read n left (p .1 .0) (p .1 .1 .1) in
+    let rest : o .1 .0 ≡ blank ∷ (lineText n ++ left) = word-read (blank ∷ []) (o .1 .0) (p .1 .0) (p .0) (p .1 .1 .0) ∙ rw (l .0) in
+    (word-read w bs (o .1 .0) (o .0) (o .1 .1 .0) ∙ rw (rest, one-named w n) (sym (append-assoc w (blank ∷ lineText n) left)), l .1)

@@ -13,7 +13,7 @@ use mir.Val.{boolByte}
 use Rattle.text.specs.Bytes.{minus, pasted}
 use Rattle.text.specs.Signed.{below, magnitude}
 use Rattle.text.specs.Printing.{digit, decimal, printed}
-use Rattle.text.specs.Told.{Writes}
+use Rattle.text.specs.Contracts.{Writes}
 use Rattle.text.proofs.Decimals.{decimal-one, decimal-more, decimal-some, shorter}
 
 module _ {A : Type 0} (room : List A) (at : ℕ) where
@@ -75,9 +75,9 @@ writes-both a b room at room′ next room″ last h p q = record {
 
 -- ---- digits from the last on
 
-pub digit-turn : (room : List ℕ) (at n i : ℕ) → 10 ≤ n → i + 1 ≡ at + length (decimal n) → at + length (decimal n) ≤ length room
+pub digit-once : (room : List ℕ) (at n i : ℕ) → 10 ≤ n → i + 1 ≡ at + length (decimal n) → at + length (decimal n) ≤ length room
     → (pasted (set room i (digit (n % 10))) at (decimal (n / 10)) ≡ pasted room at (decimal n)) × (i ≡ at + length (decimal (n / 10)))
-digit-turn room at n i h is fits =
+digit-once room at n i h is fits =
     let m = decimal-more n h in
     let l = shorter n h in
     let e : i ≡ at + length (decimal (n / 10)) = omega arith in

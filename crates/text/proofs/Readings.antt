@@ -15,7 +15,7 @@ use mir.Val.{boolByte}
 use Rattle.rules.proofs.Bits.{split, and-left, and-right}
 use Rattle.text.specs.Bytes.{minus, nought, isDigit, first}
 use Rattle.text.specs.Reading.{Found, none, found, onward, digits, worth, proper, upTo, largest, positive, negative, integer, word}
-use Rattle.text.specs.Told.{told, Reads, Scans, Signs, top}
+use Rattle.text.specs.Contracts.{reached, Reads, Scans, Signs, top}
 use Rattle.text.proofs.Grammar.{digits-front, decimal-read}
 use Rattle.text.proofs.Scanning.{first-drop, top-test}
 
@@ -110,19 +110,19 @@ pub reads-integer : (text : List ℕ) (at : ℕ) (m ok : Bool) (n : ℕ) (r : �
 unfolding integer
 reads-integer text at false ok n r next is s g =
     let plain : eqb (first (drop at text)) minus ≡ false = sym (is ∙ stands-first text at minus refl) in
-    let same : told text ok n next ≡ upTo largest (drop at text) = rw (add-zero at) at (s .exact) in
+    let same : reached text ok n next ≡ upTo largest (drop at text) = rw (add-zero at) at (s .exact) in
     record { exact = rw plain (go ok same); within = s .within }
   where
-    go : (ok : Bool) → told text ok n next ≡ upTo largest (drop at text) → told text (ok && true) r next ≡ positive (upTo largest (drop at text))
+    go : (ok : Bool) → reached text ok n next ≡ upTo largest (drop at text) → reached text (ok && true) r next ≡ positive (upTo largest (drop at text))
     go true e = rw (← e, g .above refl (decimal-read largest n (drop next text) (drop at text) (sym e) .small))
     go false e = rw (← e)
 reads-integer text at true ok n r next is s g =
     let signed : eqb (first (drop at text)) minus ≡ true = sym (is ∙ stands-first text at minus refl) in
-    let same : told text ok n next ≡ upTo (suc largest) (drop 1 (drop at text)) = s .exact ∙ rw (drop-drop 1 at text) in
+    let same : reached text ok n next ≡ upTo (suc largest) (drop 1 (drop at text)) = s .exact ∙ rw (drop-drop 1 at text) in
     record { exact = rw signed (go ok n same g); within = s .within }
   where
-    go : (ok : Bool) (n : ℕ) → told text ok n next ≡ upTo (suc largest) (drop 1 (drop at text)) → Signs true n r
-        → told text (ok && not (eqb n 0)) r next ≡ negative (upTo (suc largest) (drop 1 (drop at text)))
+    go : (ok : Bool) (n : ℕ) → reached text ok n next ≡ upTo (suc largest) (drop 1 (drop at text)) → Signs true n r
+        → reached text (ok && not (eqb n 0)) r next ≡ negative (upTo (suc largest) (drop 1 (drop at text)))
     go false n e g = rw (← e)
     go true zero e g = rw (← e)
     go true (suc k) e g =
@@ -132,10 +132,10 @@ reads-integer text at true ok n r next is s g =
 -- ---- a word, byte by byte
 
 -- what is left of the word and of the text comes to what both do
-pub word-turn : (w text : List ℕ) (at i : ℕ) → i < length w → at + i < length text → eqb (getD text (at + i) 0) (getD w i 0) ≡ true
+pub word-once : (w text : List ℕ) (at i : ℕ) → i < length w → at + i < length text → eqb (getD text (at + i) 0) (getD w i 0) ≡ true
     → word (drop (i + 1) w) (drop (at + (i + 1)) text) ≡ word (drop i w) (drop (at + i) text)
 unfolding word
-word-turn w text at i h g e =
+word-once w text at i h g e =
     let k : at + (i + 1) ≡ suc (at + i) = omega arith in
     rw (k, add-one i, drop-cons w i 0 h, drop-cons text (at + i) 0 g, e)
 
@@ -159,7 +159,7 @@ pub reads-then : {A B : Type 0} (text : List ℕ) (m : Found A) (f : A → List 
     → Reads text m a v j → Reads text (f v (drop j text)) b w k → Reads text (onward m none f) (a && b) w k
 reads-then text m f a b v w j k p q = record { exact = go a (p .exact); within = q .within }
   where
-    go : (a : Bool) → told text a v j ≡ m → told text (a && b) w k ≡ onward m none f
+    go : (a : Bool) → reached text a v j ≡ m → reached text (a && b) w k ≡ onward m none f
     go true e = q .exact ∙ rw (← e)
     go false e = rw (← e)
 
@@ -168,7 +168,7 @@ pub reads-end : {A : Type 0} (text : List ℕ) (w : List ℕ) (b : Bool) (v : A)
     → Reads text (word w (drop j text)) b tt k → Reads text (onward (word w (drop j text)) none (λ u behind. found v behind)) b v k
 reads-end text w b v j k q = record { exact = go b (q .exact); within = q .within }
   where
-    go : (b : Bool) → told text b tt k ≡ word w (drop j text) → told text b v k ≡ onward (word w (drop j text)) none (λ u behind. found v behind)
+    go : (b : Bool) → reached text b tt k ≡ word w (drop j text) → reached text b v k ≡ onward (word w (drop j text)) none (λ u behind. found v behind)
     go true e = rw (← e)
     go false e = rw (← e)
 

@@ -13,7 +13,7 @@ use lib.Seq.{drop-cons, getD-drop}
 use Rattle.rules.proofs.Bits.{split}
 use Rattle.text.specs.Bytes.{nought, isDigit, first}
 use Rattle.text.specs.Reading.{digits, worth}
-use Rattle.text.specs.Told.{Scans, top}
+use Rattle.text.specs.Contracts.{Scans, top}
 use Rattle.text.proofs.Grammar.{digits-none}
 
 -- ---- counting up to the top
@@ -40,7 +40,7 @@ top-test v most h =
     (λ e. let s : min top v ≡ v = omega (arith, leb-true v most e) in rw s)
     (λ e. let big : most < v = leb-false v most e in lt-leb (min top v) most (omega arith) ∙ sym e)
 
--- ---- one turn, and the end
+-- ---- one digit, and the end
 
 pub first-drop : (text : List ℕ) (i : ℕ) → first (drop i text) ≡ getD text i 0
 first-drop text i = getD-drop i text 0 0 ∙ ap (λ (k : ℕ). getD text k 0) (add-zero i)
@@ -49,13 +49,13 @@ digits-more : (text : List ℕ) (i : ℕ) → i < length text → isDigit (getD 
 unfolding digits
 digits-more text i h e = rw (drop-cons text i 0 h, e, add-one i)
 
-pub record Turned (text : List ℕ) (i v v′ : ℕ) : Type 0 where
+pub record Once (text : List ℕ) (i v v′ : ℕ) : Type 0 where
   pub place : i + 1 + length (digits (drop (i + 1) text)) ≡ i + length (digits (drop i text))
   pub count : min top (worth v′ (digits (drop (i + 1) text))) ≡ min top (worth v (digits (drop i text)))
 
-pub scan-turn : (text : List ℕ) (i v v′ : ℕ) → i < length text → isDigit (getD text i 0) ≡ true → v′ ≡ min top (10 * v + (getD text i 0 - nought)) → Turned text i v v′
+pub scan-once : (text : List ℕ) (i v v′ : ℕ) → i < length text → isDigit (getD text i 0) ≡ true → v′ ≡ min top (10 * v + (getD text i 0 - nought)) → Once text i v v′
 unfolding worth
-scan-turn text i v v′ h e is =
+scan-once text i v v′ h e is =
     let m = digits-more text i h e in
     record {
       place = rw m (omega arith);

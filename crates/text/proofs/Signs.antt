@@ -12,7 +12,7 @@ use mir.Val.{toZ, ofZ, SFits}
 use mir.ValLaws.{toZ-ofZ}
 use Rattle.rules.specs.Numbers.{natOf}
 use Rattle.text.specs.Reading.{largest}
-use Rattle.text.specs.Told.{Signs}
+use Rattle.text.specs.Contracts.{Signs}
 use Rattle.text.specs.Signed.{below, flipped, magnitude}
 
 pub below-is : (z : ℤ) → ltZ z (pos 0) ≡ below z

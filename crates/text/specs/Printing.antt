@@ -4,7 +4,7 @@ use mathlib.Core.List.{List, [], _∷_, _++_}
 use Prim.Native.Nat.{ℕ, zero, suc, _+_, _/_, _%_}
 use lib.Dec.{ltb}
 use lib.IntN.{ℤ, pos, negsuc}
-use Rattle.text.specs.Bytes.{lf, minus, nought}
+use Rattle.text.specs.Bytes.{lf, blank, minus, nought}
 
 -- the byte of a digit
 abbrev pub digit : ℕ → ℕ
@@ -33,11 +33,22 @@ unfoldable pub endedText : ℕ → ℤ → List ℕ
 unfolding printed
 endedText end v = printed v ++ end ∷ []
 
--- a line of one number, and one of a word and a count
+-- a line of one number
 unfoldable pub lineText : ℕ → List ℕ
 unfolding decimal
 lineText n = decimal n ++ lf ∷ []
 
-unfoldable pub countText : List ℕ → ℕ → List ℕ
-unfolding lineText
-countText w n = w ++ lineText n
+-- a number after one blank, and numbers so, one behind another
+unfoldable pub spacedText : ℕ → List ℕ
+unfolding decimal
+spacedText n = blank ∷ decimal n
+
+unfoldable pub allSpaced : List ℕ → List ℕ
+unfolding spacedText
+allSpaced [] = []
+allSpaced (n ∷ ns) = spacedText n ++ allSpaced ns
+
+-- a line of a word and numbers
+unfoldable pub namedText : List ℕ → List ℕ → List ℕ
+unfolding allSpaced
+namedText w ns = w ++ (allSpaced ns ++ lf ∷ [])

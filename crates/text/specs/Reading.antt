@@ -5,7 +5,7 @@ use Prim.Native.Nat.{ℕ, zero, suc, _+_, _-_, _*_}
 use lib.Dec.{eqb, leb, ltb}
 use lib.IntN.{ℤ, pos, negsuc}
 use lib.ListN.{length, drop}
-use Rattle.text.specs.Bytes.{lf, minus, nought, isDigit, first}
+use Rattle.text.specs.Bytes.{lf, blank, minus, nought, isDigit, first}
 
 -- a value, and what is left behind it
 pub data Found (A : Type 0) : Type 0 where
@@ -89,7 +89,7 @@ unfoldable pub naturalLine : List ℕ → Found ℕ
 unfolding natural word
 naturalLine bs = onward (natural bs) none (λ n left. onward (word (lf ∷ []) left) none (λ u behind. found n behind))
 
--- a word, and a count behind it
+-- a word, one blank, and a count behind it
 unfoldable pub countLine : List ℕ → List ℕ → Found ℕ
 unfolding naturalLine
-countLine w bs = onward (word w bs) none (λ u left. naturalLine left)
+countLine w bs = onward (word w bs) none (λ u left. onward (word (blank ∷ []) left) none (λ u behind. naturalLine behind))

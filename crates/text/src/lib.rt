@@ -10,7 +10,7 @@ ghost use Rattle.text.specs.Bytes as Bytes;
 ghost use Rattle.text.specs.Printing as Printing;
 ghost use Rattle.text.specs.Reading as Reading;
 ghost use Rattle.text.specs.Signed as Signed;
-ghost use Rattle.text.specs.Told.{Reads, Writes, Scans, Signs, top};
+ghost use Rattle.text.specs.Contracts.{Reads, Writes, Prints, Scans, Signs, top, lineSize, namedSize};
 
 // The largest number of a text.
 const LARGEST: u32 = 2147483647;
@@ -243,15 +243,16 @@ pub fn read_line(text: &[u8], at: usize) -> Natural
     }
 }
 
-// A line of a word and a count.
+// A line of a word and a count, with one blank between.
 pub fn read_count(text: &[u8], at: usize, w: &[u8]) -> Natural
     requires { ⌜ at ≤ length (now text) ⌝ }
     ensures { λ r. ⌜ Reads (now (text .entry)) (Reading.countLine (now (w .entry)) (drop at (now (text .entry)))) (r .ok) (r .value) (r .next) ⌝ }
 {
     let p = read_word(text, at, w);
-    let n = read_line(text, p.next);
+    let b = read_byte(text, p.next, b' ');
+    let n = read_line(text, b.next);
     Natural {
-        ok: p.ok & n.ok,
+        ok: p.ok & (b.ok & n.ok),
         value: n.value,
         next: n.next,
     }
@@ -345,11 +346,36 @@ pub fn write_line(out: &mut [u8], at: usize, n: u32) -> usize
     write_byte(out, next, b'\n')
 }
 
-// A line of a word and a count.
-pub fn write_count(out: &mut [u8], at: usize, w: &[u8], n: u32) -> usize
-    requires { ⌜ at + length (Printing.countText (now w) n) ≤ length (now out) ⌝ }
-    ensures { λ r. ⌜ Writes (Printing.countText (now (w .entry)) n) (now (out .entry)) at (now (out .exit)) r ⌝ }
+// A number after one blank.
+fn write_spaced(out: &mut [u8], at: usize, n: u32) -> usize
+    requires { ⌜ at + length (Printing.spacedText n) ≤ length (now out) ⌝ }
+    ensures { λ r. ⌜ Writes (Printing.spacedText n) (now (out .entry)) at (now (out .exit)) r ⌝ }
 {
-    let next = write_word(&mut *out, at, w);
-    write_line(out, next, n)
+    let next = write_byte(&mut *out, at, b' ');
+    write_natural(out, next, n)
+}
+
+// Numbers, each after one blank.
+fn write_all_spaced(out: &mut [u8], at: usize, numbers: &[u32]) -> usize
+    requires { ⌜ at + lineSize * length (now numbers) ≤ length (now out) ⌝ }
+    ensures { λ r. ⌜ Prints (lineSize * length (now (numbers .entry))) (Printing.allSpaced (now (numbers .entry))) (now (out .entry)) at (now (out .exit)) r ⌝ }
+{
+    let n = numbers.len();
+    let mut next = at;
+    let mut i = 0;
+    while i < n {
+        next = write_spaced(&mut *out, next, numbers[i]);
+        i += 1;
+    }
+    next
+}
+
+// A line of a word and numbers, each after one blank.
+pub fn write_named(out: &mut [u8], at: usize, w: &[u8], numbers: &[u32]) -> usize
+    requires { ⌜ at + namedSize (length (now w)) (length (now numbers)) ≤ length (now out) ⌝ }
+    ensures { λ r. ⌜ Prints (namedSize (length (now (w .entry))) (length (now (numbers .entry)))) (Printing.namedText (now (w .entry)) (now (numbers .entry))) (now (out .entry)) at (now (out .exit)) r ⌝ }
+{
+    let first = write_word(&mut *out, at, w);
+    let last = write_all_spaced(&mut *out, first, numbers);
+    write_byte(out, last, b'\n')
 }

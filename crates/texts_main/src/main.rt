@@ -2,11 +2,14 @@
 // same form. It stops where the input ends.
 use libc::STDIN_FILENO;
 use libc::STDOUT_FILENO;
+use spelling::ANSWER_BYTES;
+use spelling::LIST_BYTES;
 ghost use Prim.Native.Nat.{_+_, _≤_, _<_};
 ghost use lib.ListN.{length};
+ghost use Rattle.spelling.specs.Sizes.{answerBytes};
 
 // One byte more than a text may have: of a longer one no more is kept.
-const MOST: usize = 16385;
+const MOST: usize = LIST_BYTES + 1;
 
 // Whether to go on, and how much of the output waits.
 struct Step {
@@ -70,10 +73,10 @@ fn put(bytes: &[u8], buffer: &mut [u8], at: usize)
 
 // The answer to a text goes behind what waits.
 fn answer(text: &[u8], buffer: &mut [u8], used: usize) -> usize
-    requires { ⌜ (used ≤ length (now buffer)) × (32772 ≤ length (now buffer)) ⌝ }
+    requires { ⌜ (used ≤ length (now buffer)) × (answerBytes + 4 ≤ length (now buffer)) ⌝ }
     ensures { λ r. ⌜ r ≤ length (now (buffer .exit)) ⌝ }
 {
-    let mut out = [0u8; 32768];
+    let mut out = [0u8; ANSWER_BYTES];
     let r = list::list(text, &mut out);
     let n = r.length;
     let at = spare(&*buffer, used, n + 4);
@@ -85,7 +88,7 @@ fn answer(text: &[u8], buffer: &mut [u8], used: usize) -> usize
 
 // One text, if there is one.
 fn next(buffer: &mut [u8], used: usize) -> Step
-    requires { ⌜ (used ≤ length (now buffer)) × (32772 ≤ length (now buffer)) ⌝ }
+    requires { ⌜ (used ≤ length (now buffer)) × (answerBytes + 4 ≤ length (now buffer)) ⌝ }
     ensures { λ r. ⌜ r .used ≤ length (now (buffer .exit)) ⌝ }
 {
     let mut head = [0u8; 4];
@@ -94,7 +97,7 @@ fn next(buffer: &mut [u8], used: usize) -> Step
     }
     let n = joined(head[0], head[1], head[2], head[3]) as usize;
     let k = least(n, MOST);
-    let mut text = [0u8; 16385];
+    let mut text = [0u8; MOST];
     if !fill(&mut text, k) {
         return Step { more: false, used };
     }
@@ -107,28 +110,28 @@ fn next(buffer: &mut [u8], used: usize) -> Step
     }
 }
 
-// A proved loop has to end: it counts its turns down, from a number that no run uses up.
-fn left(turns: u64, more: bool) -> u64
-    requires { ⌜ 0 < turns ⌝ }
-    ensures { λ r. ⌜ r < turns ⌝ }
+// A proved loop has to end: it counts its rounds down, from a number that no run uses up.
+fn left(rounds: u64, more: bool) -> u64
+    requires { ⌜ 0 < rounds ⌝ }
+    ensures { λ r. ⌜ r < rounds ⌝ }
 {
-    if more { turns - 1 } else { 0 }
+    if more { rounds - 1 } else { 0 }
 }
 
 fn run(buffer: &mut [u8])
-    requires { ⌜ 32772 ≤ length (now buffer) ⌝ }
+    requires { ⌜ answerBytes + 4 ≤ length (now buffer) ⌝ }
 {
     let mut used = 0;
-    let mut turns = u64::MAX;
-    while 0 < turns {
+    let mut rounds = u64::MAX;
+    while 0 < rounds {
         let s = next(&mut *buffer, used);
-        turns = left(turns, s.more);
+        rounds = left(rounds, s.more);
         used = s.used;
     }
     io::write_all(STDOUT_FILENO, &buffer[..used]);
 }
 
 fn main() {
-    let mut buffer = [0u8; 65536];
+    let mut buffer = [0u8; 2 * ANSWER_BYTES];
     run(&mut buffer);
 }

@@ -1,7 +1,6 @@
--- `list::list` meets its contract: the answer, and demand 3 of every list that was read.
+-- `list::list` meets its contract: the answer, and demand 3 of what is printed.
 use borrow.Author.Needs.{needs}
-use Rattle.rules.specs.Numbers.{gatesOf}
-use Rattle.rules.proofs.Resynthesis.{promised}
+use Rattle.list.proofs.Keeping.{lists}
 use Rattle.list.proofs.list.Statement.{statement}
 use Rattle.list.proofs.list.Tie as tie
 
@@ -9,7 +8,7 @@ answer-requires : tie.Need-answer-requires
 answer-requires c κs = search needs
 
 returns : tie.Need-returns
-returns c = record { says = c .answer .ensures; promised = λ h numbers e. promised (h .qubits) (h .terms) (gatesOf numbers) }
+returns c = lists _ _ _ _ (c .answer .ensures)
 
 pub list-spec : {M : Type 1} → statement M
 list-spec = tie.close (tie.spec answer-requires returns)

@@ -1,9 +1,14 @@
 -- `list::print` meets its contract: what is printed is the result.
-use mathlib.Core.Path.{refl}
 use native.Mathlib.Omega.{arith}
 use borrow.Author.Needs.{needs}
+use lib.ListN.{length}
+use Rattle.printing.specs.Contracts.{resultSize}
+use Rattle.list.proofs.Saying.{says-printed}
 use Rattle.list.proofs.print.Statement.{statement}
 use Rattle.list.proofs.print.Tie as tie
+
+cast-t6 : tie.Need-cast-t6
+cast-t6 c = search needs
 
 cast-t7 : tie.Need-cast-t7
 cast-t7 c = search needs
@@ -26,30 +31,27 @@ cast-t12 c = search needs
 cast-t13 : tie.Need-cast-t13
 cast-t13 c = search needs
 
-cast-t14 : tie.Need-cast-t14
-cast-t14 c = search needs
-
 slice-aggregate-write-result : tie.Need-slice-aggregate-write-result
 slice-aggregate-write-result c = search needs
 
-slice-aggregate-write-result-2 : tie.Need-slice-aggregate-write-result-2
-slice-aggregate-write-result-2 c = search needs
-
 write-result-requires : tie.Need-write-result-requires
-write-result-requires c κs = search needs
+write-result-requires c κs =
+    let s = c .before .before .before .before .before .before .before .before .before .before .before in
+    record { few = omega (arith, s .pre .0 .1); counts-few = omega arith; fits = omega (arith, s .pre .0 .0, s .pre .0 .1) }
 
 same-length : tie.Need-same-length
 same-length c = search needs
 
 returns : tie.Need-returns
 returns c =
-    let p = (c .before .before) .write-result .ensures in
-    record { text = p .text; size = p .size; fits = omega (arith, p .size, p .fits); refused = refl }
+    let s = c .before .before .before .before .before .before .before .before .before .before .before .before .before .before in
+    says-printed _ (resultSize (length (s .args .numbers .now)) 8) _ _ _ _ (omega (arith, s .pre .0 .0, s .pre .0 .1)) (c .before .before .write-result .ensures)
 
 pub print-spec : {M : Type 1} → statement M
 print-spec =
     tie.close
     (tie.spec
+    cast-t6
     cast-t7
     cast-t8
     cast-t9
@@ -57,9 +59,7 @@ print-spec =
     cast-t11
     cast-t12
     cast-t13
-    cast-t14
     slice-aggregate-write-result
-    slice-aggregate-write-result-2
     write-result-requires
     same-length
     returns)

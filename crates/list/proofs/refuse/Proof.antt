@@ -1,20 +1,22 @@
 -- `list::refuse` meets its contract: what is printed is the refusal.
-use mathlib.Core.Path.{refl}
 use native.Mathlib.Omega.{arith}
 use borrow.Author.Needs.{needs}
+use Rattle.text.specs.Contracts.{namedSize}
+use Rattle.list.proofs.Saying.{says-printed}
 use Rattle.list.proofs.refuse.Statement.{statement}
 use Rattle.list.proofs.refuse.Tie as tie
 
+slice-aggregate-write-refusal : tie.Need-slice-aggregate-write-refusal
+slice-aggregate-write-refusal c = search needs
+
 write-refusal-requires : tie.Need-write-refusal-requires
-write-refusal-requires c κs = search needs
+write-refusal-requires c κs = omega (arith, c .before .before .before .pre)
 
 same-length : tie.Need-same-length
 same-length c = search needs
 
 returns : tie.Need-returns
-returns c =
-    let p = (c .before .before) .write-refusal .ensures in
-    record { text = p .text; size = p .size; fits = omega (arith, p .size, p .fits); refused = refl }
+returns c = says-printed _ (namedSize 7 2) _ _ _ _ (omega (arith, c .before .before .before .before .before .before .pre)) (c .before .before .write-refusal .ensures)
 
 pub refuse-spec : {M : Type 1} → statement M
-refuse-spec = tie.close (tie.spec write-refusal-requires same-length returns)
+refuse-spec = tie.close (tie.spec slice-aggregate-write-refusal write-refusal-requires same-length returns)

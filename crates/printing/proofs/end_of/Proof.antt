@@ -1,9 +1,8 @@
 -- `printing::end_of` meets its contract.
-use Prim.Native.Nat.{suc, _%_}
+use Prim.Native.Nat.{_+_, _-_}
 use native.Mathlib.Omega.{arith}
-use borrow.Author.Needs.{needs}
 use borrow.Author.Tests.{eq-eqb, ne-eqb}
-use Rattle.rules.specs.Limits.{width}
+use borrow.Author.Needs.{needs}
 use Rattle.printing.proofs.end_of.Statement.{statement}
 use Rattle.printing.proofs.end_of.Tie as tie
 
@@ -11,10 +10,14 @@ add-if1 : tie.Need-add-if1
 add-if1 c = search needs
 
 returns : tie.Need-returns
-returns c = rw (eq-eqb (suc (c .before .args .i) % width) 0 (omega (arith, c .if1 .taken)))
+returns c =
+    let s = c .before .args in
+    rw (ne-eqb (s .n - (s .k + 1)) 0 (λ h. omega arith))
 
 returns-2 : tie.Need-returns-2
-returns-2 c = rw (ne-eqb (suc (c .before .args .i) % width) 0 (λ e. c .if1 .left (omega (arith, e))))
+returns-2 c =
+    let s = c .before .args in
+    rw (eq-eqb (s .n - (s .k + 1)) 0 (omega arith))
 
 pub end-of-spec : {M : Type 1} → statement M
 end-of-spec = tie.close (tie.spec add-if1 returns returns-2)

@@ -1,37 +1,31 @@
 -- `printing::write_gates` meets its contract: the line of its count, and the gates behind it.
-use Prim.Native.Nat.{_+_, _*_, _/_}
+use Prim.Native.Nat.{_*_}
 use native.Mathlib.Omega.{arith}
 use borrow.Author.Needs.{needs}
 use lib.ListN.{length}
-use Rattle.rules.specs.Limits.{width}
-use Rattle.text.specs.Bytes.{bytes}
-use Rattle.text.specs.Printing.{countText}
-use Rattle.printing.specs.Texts.{gatesText}
-use Rattle.printing.specs.Told.{lineSize, numberSize, Prints}
-use Rattle.printing.proofs.Sizes.{count-short, prints-next, prints-both}
+use Rattle.text.specs.Contracts.{namedSize, numberSize}
+use Rattle.text.proofs.Sizes.{prints-next, prints-both}
+use Rattle.spelling.specs.Texts.{gatesText}
 use Rattle.printing.proofs.write_gates.Statement.{statement}
 use Rattle.printing.proofs.write_gates.Tie as tie
 
-slice-aggregate-write-count : tie.Need-slice-aggregate-write-count
-slice-aggregate-write-count c = search needs
+cast-t9 : tie.Need-cast-t9
+cast-t9 c = omega (arith, c .before .pre .few)
 
-cast-write-count : tie.Need-cast-write-count
-cast-write-count c = omega (arith, (c .before .before .before) .pre .few)
+slice-aggregate-write-named : tie.Need-slice-aggregate-write-named
+slice-aggregate-write-named c = search needs
 
-write-count-requires : tie.Need-write-count-requires
-write-count-requires c κs =
-    let s = (c .before .before .before) in
-    omega (arith, s .pre .fits, count-short (bytes "gates ") (length (s .args .numbers .now) / width) (omega (arith, s .pre .few)))
+slice-aggregate-write-named-2 : tie.Need-slice-aggregate-write-named-2
+slice-aggregate-write-named-2 c = search needs
 
-first : (c : tie.After-write-count) → Prints (6 + lineSize) (countText (bytes "gates ") (length ((c .before .before .before .before) .args .numbers .now) / width)) ((c .before .before .before .before) .args .out .now) ((c .before .before .before .before) .args .at) (c .write-count .last .0) (c .write-count .result)
-first c =
-    let s = (c .before .before .before .before) in
-    record { writes = c .write-count .ensures; short = count-short (bytes "gates ") (length (s .args .numbers .now) / width) (omega (arith, s .pre .few)) }
+write-named-requires : tie.Need-write-named-requires
+write-named-requires c κs = omega (arith, c .before .before .before .before .pre .fits)
 
-write-numbers-requires : tie.Need-write-numbers-requires
-write-numbers-requires c κs =
-    let s = (c .before .before .before .before .before .before .before) in
-    (s .pre .few, prints-next (6 + lineSize) (numberSize * length (s .args .numbers .now)) _ _ (s .args .at) _ _ (s .pre .fits) (first (c .before .before .before)))
+write-rows-requires : tie.Need-write-rows-requires
+write-rows-requires c κs =
+    let named = c .before .before .before in
+    let s = named .before .before .before .before .before in
+    prints-next (namedSize 5 1) (numberSize * length (s .args .numbers .now)) _ _ (s .args .at) _ _ (s .pre .fits) (named .write-named .ensures)
 
 same-length : tie.Need-same-length
 same-length c = search needs
@@ -39,16 +33,18 @@ same-length c = search needs
 returns : tie.Need-returns
 unfolding gatesText
 returns c =
-    let s = (c .before .before .before .before .before .before .before .before .before .before) in
-    prints-both (6 + lineSize) (numberSize * length (s .args .numbers .now)) _ _ (s .args .at) _ _ (s .pre .fits) (first (c .before .before .before .before .before .before)) _ _ _ ((c .before .before) .write-numbers .ensures)
+    let named = c .before .before .before .before .before .before in
+    let s = named .before .before .before .before .before in
+    prints-both (namedSize 5 1) (numberSize * length (s .args .numbers .now)) _ _ (s .args .at) _ _ (s .pre .fits) (named .write-named .ensures) _ _ _ (c .before .before .write-rows .ensures)
 
 pub write-gates-spec : {M : Type 1} → statement M
 write-gates-spec =
     tie.close
     (tie.spec
-    slice-aggregate-write-count
-    cast-write-count
-    write-count-requires
-    write-numbers-requires
+    cast-t9
+    slice-aggregate-write-named
+    slice-aggregate-write-named-2
+    write-named-requires
+    write-rows-requires
     same-length
     returns)

@@ -6,10 +6,11 @@ use native.Mathlib.Omega.{arith}
 use borrow.Author.Needs.{needs}
 use lib.ListN.{length, getD, drop}
 use Rattle.text.specs.Printing.{lineText}
-use Rattle.printing.specs.Texts.{linesText}
-use Rattle.printing.specs.Told.{lineSize}
-use Rattle.printing.proofs.Sizes.{line-short}
-use Rattle.printing.proofs.Begun.{Begun, begun-none, begun-more, begun-all, lines-more, lines-none}
+use Rattle.spelling.specs.Texts.{linesText}
+use Rattle.text.specs.Contracts.{lineSize}
+use Rattle.text.proofs.Sizes.{line-short}
+use Rattle.text.proofs.Begun.{Begun, begun-none, begun-more, begun-all}
+use Rattle.printing.proofs.Rows.{lines-more, lines-none}
 use Rattle.printing.proofs.write_lines.Statement.{statement}
 use Rattle.printing.proofs.write_lines.Tie as tie
 

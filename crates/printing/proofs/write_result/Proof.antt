@@ -1,40 +1,37 @@
--- `printing::write_result` meets its contract: its three parts, one behind another.
+-- `printing::write_result` meets its contract: the list, and the counts behind it.
+use native.Mathlib.Omega.{arith}
 use borrow.Author.Needs.{needs}
-use Rattle.printing.proofs.Sizes.{printed-result}
+use lib.ListN.{length}
+use Rattle.text.proofs.Sizes.{prints-next, prints-both}
+use Rattle.spelling.specs.Texts.{resultText}
+use Rattle.printing.specs.Contracts.{sectionSize, listSize}
 use Rattle.printing.proofs.write_result.Statement.{statement}
 use Rattle.printing.proofs.write_result.Tie as tie
+
+write-list-requires : tie.Need-write-list-requires
+write-list-requires c κs = let s = c .before .before .before in record { few = s .pre .few; fits = omega (arith, s .pre .fits) }
 
 slice-aggregate-write-section : tie.Need-slice-aggregate-write-section
 slice-aggregate-write-section c = search needs
 
 write-section-requires : tie.Need-write-section-requires
-write-section-requires c κs = search needs
-
-write-gates-requires : tie.Need-write-gates-requires
-write-gates-requires c κs = search needs
-
-slice-aggregate-write-section-2 : tie.Need-slice-aggregate-write-section-2
-slice-aggregate-write-section-2 c = search needs
-
-write-section-requires-2 : tie.Need-write-section-requires-2
-write-section-requires-2 c κs = search needs
+write-section-requires c κs =
+    let list = c .before .before .before .before in
+    let s = list .before .before .before .before in
+    record {
+      few = s .pre .counts-few;
+      fits = prints-next (listSize (length (s .args .numbers .now))) (sectionSize 6 (length (s .args .counts .now))) _ _ (s .args .at) _ _ (s .pre .fits) (list .write-list .ensures);
+    }
 
 same-length : tie.Need-same-length
 same-length c = search needs
 
 returns : tie.Need-returns
+unfolding resultText
 returns c =
-    let s = (c .before .before .before .before .before .before .before .before .before .before .before .before .before .before .before .before .before) in
-    printed-result (s .args .head .now) (s .args .numbers .now) (s .args .counts .now) (s .args .out .now) _ _ _ _ _ _ (s .pre) ((c .before .before .before .before .before .before .before .before .before .before .before) .write-section .ensures) ((c .before .before .before .before .before .before .before) .write-gates .ensures) ((c .before .before) .write-section2 .ensures)
+    let list = c .before .before .before .before .before .before .before in
+    let s = list .before .before .before .before in
+    prints-both (listSize (length (s .args .numbers .now))) (sectionSize 6 (length (s .args .counts .now))) _ _ (s .args .at) _ _ (s .pre .fits) (list .write-list .ensures) _ _ _ (c .before .before .write-section .ensures)
 
 pub write-result-spec : {M : Type 1} → statement M
-write-result-spec =
-    tie.close
-    (tie.spec
-    slice-aggregate-write-section
-    write-section-requires
-    write-gates-requires
-    slice-aggregate-write-section-2
-    write-section-requires-2
-    same-length
-    returns)
+write-result-spec = tie.close (tie.spec write-list-requires slice-aggregate-write-section write-section-requires same-length returns)

@@ -11,11 +11,12 @@ use mir.ValLaws.{toZ-ofZ}
 use Rattle.rules.specs.Limits.{width}
 use Rattle.text.specs.Bytes.{pasted}
 use Rattle.text.specs.Reading.{ended}
-use Rattle.text.specs.Told.{Reads}
+use Rattle.text.specs.Contracts.{Reads}
 use Rattle.text.proofs.Readings.{reads-ok, reads-no}
 use Rattle.text.proofs.Pasting.{pasted-none}
-use Rattle.reading.specs.Reading.{Row, row}
-use Rattle.reading.proofs.Gates.{ends, row-stop, row-end, row-turn}
+use Rattle.spelling.specs.Reading.{Row, row}
+use Rattle.spelling.proofs.Spelling.{ends}
+use Rattle.reading.proofs.Gates.{row-stop, row-end, row-once}
 use Rattle.reading.proofs.read_row.Statement.{statement}
 use Rattle.reading.proofs.read_row.Tie as tie
 
@@ -83,7 +84,7 @@ loop-again c =
     let v = c .before .before .read-ended in
     let fits : mag (v .result .value) < 2 ^ 31 = omega arith in
     let t =
-    row-turn (p .loop .numbers) (s .to) width (p .loop .k) (drop (p .loop .next) (s .text .now)) (v .result .value) (drop (v .result .next) (s .text .now))
+    row-once (p .loop .numbers) (s .to) width (p .loop .k) (drop (p .loop .next) (s .text .now)) (v .result .value) (drop (v .result .next) (s .text .now))
     (omega arith) (omega arith) (reads-ok _ _ _ _ _ (reads (c .before .before)) (not-false _ (c .if1 .left))) in
     rw (toZ-ofZ w32 (v .result .value) (record { sfits = fits }))
     (omega arith, v .ensures .within, length-set (p .loop .numbers) (s .to + p .loop .k) (v .result .value) ∙ p .loop .inv .2, t .0 ∙ p .loop .inv .3, t .1 ∙ p .loop .inv .4)

@@ -8,8 +8,8 @@ use lib.ListN.{length, drop}
 use Rattle.rules.specs.Limits.{width}
 use Rattle.text.specs.Bytes.{pasted}
 use Rattle.text.proofs.Pasting.{pasted-none}
-use Rattle.reading.specs.Reading.{Rows, rows}
-use Rattle.reading.proofs.Gates.{row-ok, row-no, rows-stop, rows-end, rows-turn, pasted-first}
+use Rattle.spelling.specs.Reading.{Rows, rows}
+use Rattle.reading.proofs.Gates.{row-ok, row-no, rows-stop, rows-end, rows-once, pasted-first}
 use Rattle.reading.proofs.read_rows.Statement.{statement}
 use Rattle.reading.proofs.read_rows.Tie as tie
 
@@ -68,7 +68,7 @@ loop-again c =
     let r = c .before .before .read-row in
     let bs = drop (p .loop .next) (s .args .text .now) in
     let t =
-    rows-turn (p .loop .numbers) (r .last .1 .1 .0) (s .args .n) (p .loop .i) (s .args .line) bs tt (drop (r .result .next) (s .args .text .now))
+    rows-once (p .loop .numbers) (r .last .1 .1 .0) (s .args .n) (p .loop .i) (s .args .line) bs tt (drop (r .result .next) (s .args .text .now))
     (omega arith) (omega (arith, s .pre .1, p .loop .inv .2)) (row-ok _ _ _ _ _ _ _ (r .ensures) (not-false _ (c .if1 .left))) (r .ensures .numbers) in
     (omega arith, r .ensures .within, r .kept .1 .1 .0 ∙ p .loop .inv .2, t .0 ∙ p .loop .inv .3, t .1 ∙ p .loop .inv .4)
 

@@ -1,86 +1,67 @@
--- `reading::read_text` meets its contract.
-use borrow.Author.Tests.{not-true, not-false}
+-- `reading::read_text` meets its contract: a list from the first byte on, and nothing behind it.
+use native.Mathlib.Omega.{arith}
 use borrow.Author.Needs.{needs}
-use Rattle.text.proofs.Readings.{reads-ok, reads-no}
-use Rattle.reading.proofs.Texts.{lines-ok, lines-no, bad-head, bad-count, too-many, all-read, not-all}
+use Rattle.reading.proofs.Texts.{front-is, text-wrong, text-large, text-whole, text-surplus}
 use Rattle.reading.proofs.read_text.Statement.{statement}
 use Rattle.reading.proofs.read_text.Tie as tie
 
-read-head-requires : tie.Need-read-head-requires
-read-head-requires c κs = search needs
+read-list-requires : tie.Need-read-list-requires
+read-list-requires c κs = record { within = omega arith; early = omega arith; holds = c .before .before .pre }
 
-returns : tie.Need-returns
-returns c =
-    let h = c .before .before .read-head in
-    bad-head _ _ _ (lines-no _ _ _ _ _ _ (h .ensures .0) (not-true _ (c .if1 .taken)))
+enum-known-line : tie.Need-enum-known-line
+enum-known-line c = search needs
 
-slice-aggregate-read-count : tie.Need-slice-aggregate-read-count
-slice-aggregate-read-count c = search needs
+enum-known-line-2 : tie.Need-enum-known-line-2
+enum-known-line-2 c = search needs
 
-read-count-requires : tie.Need-read-count-requires
-read-count-requires c κs = search needs
-
-returns-2 : tie.Need-returns-2
-returns-2 c =
-    let h = c .before .before .before .before .before .read-head in
-    let n = c .before .read-count in
-    bad-count _ _ _ _ _ (lines-ok _ _ _ _ _ _ (h .ensures .0) (not-false _ (c .before .before .before .if1 .left))) (reads-no _ _ _ _ _ (n .ensures) (not-true _ (c .if2 .taken)))
-
-returns-3 : tie.Need-returns-3
-returns-3 c =
-    let h = c .before .before .before .before .before .before .read-head in
-    let n = c .before .before .read-count in
-    too-many _ _ (h .result .head) _ _ _ _ (lines-ok _ _ _ _ _ _ (h .ensures .0) (not-false _ (c .before .before .before .before .if1 .left))) (reads-ok _ _ _ _ _ (n .ensures) (not-false _ (c .before .if2 .left))) (c .if3 .taken)
-
-add-read-rows : tie.Need-add-read-rows
-add-read-rows c = search needs
-
-cast-read-rows : tie.Need-cast-read-rows
-cast-read-rows c = search needs
-
-read-rows-requires : tie.Need-read-rows-requires
-read-rows-requires c κs = search needs
-
-cast-t22 : tie.Need-cast-t22
-cast-t22 c = search needs
+enum-known-head : tie.Need-enum-known-head
+enum-known-head c = search needs
 
 same-length : tie.Need-same-length
 same-length c = search needs
 
-returns-4 : tie.Need-returns-4
-returns-4 c =
-    let h = c .before .before .before .before .before .before .before .before .before .before .before .read-head in
-    let n = c .before .before .before .before .before .before .before .read-count in
-    let r = c .before .before .before .read-rows in
-    all-read _ _ (h .result .head) _ _ _ _ (lines-ok _ _ _ _ _ _ (h .ensures .0) (not-false _ (c .before .before .before .before .before .before .before .before .before .if1 .left))) (reads-ok _ _ _ _ _ (n .ensures) (not-false _ (c .before .before .before .before .before .before .if2 .left)))
-    (c .before .before .before .before .before .if3 .left) _ _ _ _ (r .ensures) (c .if4 .taken)
+returns : tie.Need-returns
+returns c =
+    let r = c .before .before .before .before .read-list in
+    text-wrong _ _ _ _ _ (front-is _ _ _ _ _ _ _ _ (c .before .line .given .1) (r .ensures))
 
 same-length-2 : tie.Need-same-length-2
 same-length-2 c = search needs
 
-returns-5 : tie.Need-returns-5
-returns-5 c =
-    let h = c .before .before .before .before .before .before .before .before .before .before .before .read-head in
-    let n = c .before .before .before .before .before .before .before .read-count in
-    let r = c .before .before .before .read-rows in
-    not-all _ _ (h .result .head) _ _ _ _ (lines-ok _ _ _ _ _ _ (h .ensures .0) (not-false _ (c .before .before .before .before .before .before .before .before .before .if1 .left))) (reads-ok _ _ _ _ _ (n .ensures) (not-false _ (c .before .before .before .before .before .before .if2 .left)))
-    (c .before .before .before .before .before .if3 .left) _ _ _ _ (r .ensures) (c .if4 .left)
+returns-2 : tie.Need-returns-2
+returns-2 c =
+    let r = c .before .before .before .before .read-list in
+    text-large _ _ _ _ _ (front-is _ _ _ _ _ _ _ _ (c .before .line2 .given .1) (r .ensures))
+
+same-length-3 : tie.Need-same-length-3
+same-length-3 c = search needs
+
+returns-3 : tie.Need-returns-3
+returns-3 c =
+    let r = c .before .before .before .before .before .read-list in
+    text-whole _ _ _ _ _ _ _ _ (front-is _ _ _ _ _ _ _ _ (c .before .before .head .given .1) (r .ensures)) (c .if1 .taken)
+
+same-length-4 : tie.Need-same-length-4
+same-length-4 c = search needs
+
+returns-4 : tie.Need-returns-4
+returns-4 c =
+    let r = c .before .before .before .before .before .read-list in
+    text-surplus _ _ _ _ _ _ _ _ (front-is _ _ _ _ _ _ _ _ (c .before .before .head .given .1) (r .ensures)) (c .if1 .left)
 
 pub read-text-spec : {M : Type 1} → statement M
 read-text-spec =
     tie.close
     (tie.spec
-    read-head-requires
-    returns
-    slice-aggregate-read-count
-    read-count-requires
-    returns-2
-    returns-3
-    add-read-rows
-    cast-read-rows
-    read-rows-requires
-    cast-t22
+    read-list-requires
+    enum-known-line
+    enum-known-line-2
+    enum-known-head
     same-length
-    returns-4
+    returns
     same-length-2
-    returns-5)
+    returns-2
+    same-length-3
+    returns-3
+    same-length-4
+    returns-4)

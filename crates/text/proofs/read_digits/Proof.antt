@@ -9,8 +9,8 @@ use lib.ListN.{length, getD, drop}
 use Rattle.rules.proofs.Bits.{and-left}
 use Rattle.text.specs.Bytes.{nought, isDigit}
 use Rattle.text.specs.Reading.{digits, worth}
-use Rattle.text.specs.Told.{top}
-use Rattle.text.proofs.Scanning.{scan-turn, scanned, past-end}
+use Rattle.text.specs.Contracts.{top}
+use Rattle.text.proofs.Scanning.{scan-once, scanned, past-end}
 use Rattle.text.proofs.read_digits.Statement.{statement}
 use Rattle.text.proofs.read_digits.Tie as tie
 
@@ -56,7 +56,7 @@ loop-again c =
     let p = c .before .before .before .before .before in
     let text = p .before .before .args .text .now in
     let some : isDigit (getD text (p .loop .i) 0) ≡ true = sym (c .before .before .is-digit .ensures) ∙ not-false _ (c .before .if1 .left) in
-    let t = scan-turn text (p .loop .i) (p .loop .worth) (c .grown .result) (omega arith) some (c .grown .ensures) in
+    let t = scan-once text (p .loop .i) (p .loop .worth) (c .grown .result) (omega arith) some (c .grown .ensures) in
     (omega arith, omega (arith, c .grown .ensures), t .place ∙ p .loop .inv .2, t .count ∙ p .loop .inv .3)
 
 returns-2 : tie.Need-returns-2 Inv-loop μ-loop

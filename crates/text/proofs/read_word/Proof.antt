@@ -9,7 +9,7 @@ use lib.Dec.{eqb, ltb}
 use lib.ListN.{length, getD, drop}
 use Rattle.rules.proofs.Bits.{and-left, and-right}
 use Rattle.text.specs.Reading.{word}
-use Rattle.text.proofs.Readings.{word-turn, word-stop, word-end}
+use Rattle.text.proofs.Readings.{word-once, word-stop, word-end}
 use Rattle.text.proofs.read_word.Statement.{statement}
 use Rattle.text.proofs.read_word.Tie as tie
 
@@ -60,7 +60,7 @@ loop-again c =
     let more : k < length (s .args .text .now) = ltb-true k (length (s .args .text .now)) (and-left (ltb k (length (s .args .text .now))) here t) in (
       omega arith,
       omega arith,
-      word-turn (s .args .w .now) (s .args .text .now) (s .args .at) (p .loop .i) (omega arith) more (and-right (ltb k (length (s .args .text .now))) here t) ∙ p .loop .inv .2,
+      word-once (s .args .w .now) (s .args .text .now) (s .args .at) (p .loop .i) (omega arith) more (and-right (ltb k (length (s .args .text .now))) here t) ∙ p .loop .inv .2,
     )
 
 add-t11 : tie.Need-add-t11 Inv-loop μ-loop

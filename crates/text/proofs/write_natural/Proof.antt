@@ -6,7 +6,7 @@ use lib.ListN.{length, length-set}
 use Rattle.text.specs.Bytes.{pasted}
 use Rattle.text.specs.Printing.{digit, decimal}
 use Rattle.text.proofs.Decimals.{decimal-some, shorter}
-use Rattle.text.proofs.Pasting.{digit-turn, digit-last}
+use Rattle.text.proofs.Pasting.{digit-once, digit-last}
 use Rattle.text.proofs.write_natural.Statement.{statement}
 use Rattle.text.proofs.write_natural.Tie as tie
 
@@ -43,7 +43,7 @@ loop-again c =
     let p = c .before .before .loop in
     let s = c .before .before .before .before .before in
     let some = decimal-some (p .left) in
-    let t = digit-turn (p .out) (s .args .at) (p .left) (p .i - 1) (omega arith) (omega arith) (omega arith) in
+    let t = digit-once (p .out) (s .args .at) (p .left) (p .i - 1) (omega arith) (omega arith) (omega arith) in
     (t .1, simp length-set (p .inv .1), omega (arith, shorter (p .left) (omega arith)), rw (c .digit .ensures) (t .0 ∙ p .inv .3))
 
 digit-requires-2 : tie.Need-digit-requires-2 Inv-loop μ-loop

@@ -8,10 +8,10 @@ use Rattle.texts_main.proofs.run.Statement.{statement}
 use Rattle.texts_main.proofs.run.Tie as tie
 
 abbrev Inv-loop : tie.InvT-loop
-Inv-loop buffer₀ used₀ turns₀ buffer used turns = (used ≤ length buffer) × (length buffer ≡ length buffer₀)
+Inv-loop buffer₀ used₀ rounds₀ buffer used rounds = (used ≤ length buffer) × (length buffer ≡ length buffer₀)
 
 abbrev μ-loop : tie.MeasureT-loop
-μ-loop buffer₀ used₀ turns₀ buffer used turns = turns
+μ-loop buffer₀ used₀ rounds₀ buffer used rounds = rounds
 
 loop-holds : tie.Need-loop-holds Inv-loop μ-loop
 loop-holds c = (omega arith, refl)

@@ -1,0 +1,3 @@
+mod Cases
+pub mod Spelling
+pub mod Verdicts
