@@ -9,7 +9,7 @@
  * Refusals, by number (README.md has the codes of the gates and the grammar of a text):
  *
  *   dilkovan_cnot_min                                        dilkovan_list
- *   1  the list's length is no multiple of 5                  3, 6 to 9  as on the left
+ *   1  the list's length is no multiple of DILKOVAN_WIDTH     3, 6 to 9  as on the left
  *   2  more than 8,192 gates                                  10  a text above 16,384 bytes
  *   3  more than 1,024 wires or classical bits                11  a malformed, missing or surplus line
  *   4  `out` is shorter than the list                         12  more than 512 gates
@@ -30,12 +30,17 @@
 extern "C" {
 #endif
 
-/* Shortens a list of gates, five numbers each: code, first, second, third, turn.
+/* The numbers of a gate, and of the rooms that a list of g gates needs. */
+#define DILKOVAN_WIDTH 5
+#define DILKOVAN_TERMS(g) (9 * (g))
+#define DILKOVAN_STEPS(g) (2 * ((g) + 128))
+
+/* Shortens a list of gates, DILKOVAN_WIDTH numbers each: code, first, second, third, turn.
  *
- * For g gates, `out` needs 5g numbers, `terms` 9g and `steps` 2(g + 128); they may hold any numbers, and may be longer. Nothing beyond
+ * For g gates, `out` needs DILKOVAN_WIDTH * g numbers, `terms` DILKOVAN_TERMS(g) and `steps` DILKOVAN_STEPS(g); they may hold any numbers, and may be longer. Nothing beyond
  * these parts is ever written, and the list never. The qubit cap is clamped to 1..128, the term cap raised to at least 1.
  *
- * Answers 0 when it is done. Then `out` begins with the new gates, counts[1] of them, and is 0 from there to 5g; the needed parts of
+ * Answers 0 when it is done. Then `out` begins with the new gates, counts[1] of them, and is 0 from there to DILKOVAN_WIDTH * g; the needed parts of
  * `terms` and `steps` are 0; and `counts` has gates in, gates out, CNOT and CZ in, the same out, t and tdg in, the same out, blocks
  * closed, blocks replaced. The gates of codes 10 to 27 are the same, in order; between them, the new gates take every setting of
  * the wires to the same setting, with phases that differ by one number common to all settings, and are never dearer.

@@ -82,7 +82,7 @@ static const uint64_t none[8];
 
 /* The answer is this one. Where it is 0, the counts are these and `out` begins with this result; a result that isn't given is only counted. */
 static void numbers(Call c, uint64_t answer, const int32_t *result, const uint64_t counts[8]) {
-    size_t g = c.length / 5, terms = 9 * g, steps = 2 * (g + 128);
+    size_t g = c.length / DILKOVAN_WIDTH, terms = DILKOVAN_TERMS(g), steps = DILKOVAN_STEPS(g);
     Room list = lend_filled(c.list, c.length * sizeof(int32_t));
     Room out = lend((size_t)((long)c.length + c.out) * sizeof(int32_t));
     Room term = lend((size_t)((long)terms + c.terms) * sizeof(uint64_t));
@@ -107,8 +107,8 @@ static void numbers(Call c, uint64_t answer, const int32_t *result, const uint64
     memcpy(found, inside(count), sizeof found);
     if (found[0] != g || found[1] > g)
         fail(c.name, "gates in or out");
-    size_t made = 5 * (size_t)found[1] * sizeof(int32_t);
-    settle(c.name, "out", out, result ? (const void *)result : inside(out), made, 5 * g * sizeof(int32_t) - made);
+    size_t made = DILKOVAN_WIDTH * (size_t)found[1] * sizeof(int32_t);
+    settle(c.name, "out", out, result ? (const void *)result : inside(out), made, DILKOVAN_WIDTH * g * sizeof(int32_t) - made);
     settle(c.name, "terms", term, NULL, 0, terms * sizeof(uint64_t));
     settle(c.name, "steps", step, NULL, 0, steps * sizeof(uint32_t));
     settle(c.name, "counts", count, result ? counts : found, sizeof found, 0);
@@ -161,9 +161,9 @@ static void refusals(int32_t *list) {
         Call c = {"1: no multiple of 5", three, length, 1, 0, 128, 512, 0, 0, 0};
         numbers(c, REFUSED(1, 0), NULL, none);
     }
-    for (size_t i = 0; i < 5 * MOST; i++)
-        list[i] = i % 5 == 0 ? 2 : 0;
-    Call c = {"2: 8,193 gates", list, 5 * MOST, 1, 0, 128, 512, 0, 0, 0};
+    for (size_t i = 0; i < DILKOVAN_WIDTH * MOST; i++)
+        list[i] = i % DILKOVAN_WIDTH == 0 ? 2 : 0;
+    Call c = {"2: 8,193 gates", list, DILKOVAN_WIDTH * MOST, 1, 0, 128, 512, 0, 0, 0};
     numbers(c, REFUSED(2, 0), NULL, none);
     c = (Call){"3: wires", three, 15, 1025, 0, 128, 512, 0, 0, 0};
     numbers(c, REFUSED(3, 0), NULL, none);
@@ -182,40 +182,40 @@ static void refusals(int32_t *list) {
     gate("8: a measure's bit", 8, 27, 0, 2, 0, 0);
     gate("9: control and target", 9, 8, 1, 1, 0, 0);
     gate("9: second and third", 9, 26, 0, 2, 2, 0);
-    list[5 * (MOST - 2)] = 28;
-    c = (Call){"6: the last of 8,192 gates", list, 5 * (MOST - 1), 1, 0, 128, 512, 0, 0, 0};
+    list[DILKOVAN_WIDTH * (MOST - 2)] = 28;
+    c = (Call){"6: the last of 8,192 gates", list, DILKOVAN_WIDTH * (MOST - 1), 1, 0, 128, 512, 0, 0, 0};
     numbers(c, REFUSED(6, MOST - 2), NULL, none);
 }
 
 /* Lists of 8,192 gates. */
 static void large(int32_t *list) {
     size_t g = MOST - 1;
-    memset(list, 0, 5 * g * sizeof *list);
+    memset(list, 0, DILKOVAN_WIDTH * g * sizeof *list);
     for (size_t i = 0; i < g; i++)
-        list[5 * i] = 2;
-    Call c = {"8,192 times t", list, 5 * g, 1, 0, 128, 512, 0, 0, 0};
+        list[DILKOVAN_WIDTH * i] = 2;
+    Call c = {"8,192 times t", list, DILKOVAN_WIDTH * g, 1, 0, 128, 512, 0, 0, 0};
     numbers(c, 0, list, (uint64_t[]){g, 0, 0, 0, g, 0, 1, 1});
     for (size_t i = 0; i < g; i++)
-        list[5 * i] = 10;
-    c = (Call){"8,192 times h", list, 5 * g, 1, 0, 128, 512, 3, 3, 3};
+        list[DILKOVAN_WIDTH * i] = 10;
+    c = (Call){"8,192 times h", list, DILKOVAN_WIDTH * g, 1, 0, 128, 512, 3, 3, 3};
     numbers(c, 0, list, (uint64_t[]){g, g, 0, 0, 0, 0, 0, 0});
     /* a cz on every pair of 128 wires, and some t: one block of 8,256 terms. Its result isn't given here, only its rooms are looked at */
     size_t i = 0;
     for (int32_t a = 0; a < 128; a++)
         for (int32_t b = 0; b < a; b++, i++)
-            list[5 * i] = 9, list[5 * i + 1] = a, list[5 * i + 2] = b;
+            list[DILKOVAN_WIDTH * i] = 9, list[DILKOVAN_WIDTH * i + 1] = a, list[DILKOVAN_WIDTH * i + 2] = b;
     for (; i < g; i++)
-        list[5 * i] = 2, list[5 * i + 1] = (int32_t)(i % 128);
-    c = (Call){"8,192 gates, cz on every pair", list, 5 * g, 128, 0, 128, SIZE_MAX, 0, 0, 0};
+        list[DILKOVAN_WIDTH * i] = 2, list[DILKOVAN_WIDTH * i + 1] = (int32_t)(i % 128);
+    c = (Call){"8,192 gates, cz on every pair", list, DILKOVAN_WIDTH * g, 128, 0, 128, SIZE_MAX, 0, 0, 0};
     numbers(c, 0, NULL, none);
     /* x, t, tdg, rz, cnot and cz as a simple generator has them, on more wires than a block takes; the result isn't given either */
     uint32_t state = 1;
     for (i = 0; i < g; i++) {
         static const int32_t codes[] = {1, 2, 7, 8, 8, 8, 9, 3};
-        int32_t draw[3], *at = list + 5 * i;
+        int32_t draw[3], *at = list + DILKOVAN_WIDTH * i;
         for (int k = 0; k < 3; k++)
             state = state * 1664525 + 1013904223, draw[k] = (int32_t)(state >> 20);
-        memset(at, 0, 5 * sizeof *at);
+        memset(at, 0, DILKOVAN_WIDTH * sizeof *at);
         at[0] = codes[draw[0] % 8];
         at[1] = draw[1] % 256;
         if (at[0] == 7)
@@ -223,9 +223,9 @@ static void large(int32_t *list) {
         else if (at[0] > 7)
             at[2] = (at[1] + 1 + draw[2] % 255) % 256;
     }
-    c = (Call){"8,192 mixed gates", list, 5 * g, 256, 0, 128, 512, 0, 0, 0};
+    c = (Call){"8,192 mixed gates", list, DILKOVAN_WIDTH * g, 256, 0, 128, 512, 0, 0, 0};
     numbers(c, 0, NULL, none);
-    c = (Call){"8,192 mixed gates, longer rooms", list, 5 * g, 256, 0, 128, 512, 11, 11, 11};
+    c = (Call){"8,192 mixed gates, longer rooms", list, DILKOVAN_WIDTH * g, 256, 0, 128, 512, 11, 11, 11};
     numbers(c, 0, NULL, none);
 }
 
@@ -286,7 +286,7 @@ static void texts(void) {
 }
 
 int main(void) {
-    int32_t *list = malloc(5 * MOST * sizeof *list);
+    int32_t *list = malloc(DILKOVAN_WIDTH * MOST * sizeof *list);
     if (!list)
         fail("malloc", "no memory");
     for (int turn = 0; turn < 2; turn++) {

@@ -7,6 +7,7 @@ mod rest;
 use rest::*;
 mod circuit;
 mod cnot_min;
+mod gates;
 mod random;
 
 use angle::Angle;
@@ -140,7 +141,7 @@ fn walk(name: &str, n: usize, inputs: Vec<Vec<(u128, Angle)>>) {
     let flat: Vec<_> = inputs.iter().map(|t| room(t)).collect();
     let all = 80_000;
     let (mut theirs_room, mut state) = (doors::Room::default(), Vec::new());
-    let (mut terms, mut nodes, mut held, mut out) = (vec![0u64; flat[0].len()], vec![0u64; 5 * 129], vec![0u64; 2 * n], vec![0i32; 5 * all]);
+    let (mut terms, mut nodes, mut held, mut out) = (vec![0u64; flat[0].len()], vec![0u64; 5 * 129], vec![0u64; 2 * n], vec![0i32; gates::WIDTH * all]);
     let units: Vec<u64> = words(&(0..n).map(|i| 1u128 << i).collect::<Vec<_>>());
     let mut ours_of = |set: &[u64], terms: &mut Vec<u64>, held: &mut Vec<u64>, out: &mut Vec<i32>| unsafe {
         terms.copy_from_slice(set);

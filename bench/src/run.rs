@@ -11,6 +11,7 @@ mod gates;
 mod random;
 
 use circuit::Circuit;
+use gates::WIDTH;
 use random::Random;
 use std::hint::black_box;
 use std::time::Instant;
@@ -33,8 +34,8 @@ struct Rooms {
 
 impl Rooms {
     fn of(list: &[i32]) -> Rooms {
-        let g = list.len() / 5;
-        Rooms { out: vec![0; 5 * g], terms: vec![0; 9 * g], steps: vec![0; 2 * (g + 128)], counts: [0; 8] }
+        let g = list.len() / WIDTH;
+        Rooms { out: vec![0; WIDTH * g], terms: vec![0; 9 * g], steps: vec![0; 2 * (g + 128)], counts: [0; 8] }
     }
     fn run(&mut self, list: &[i32], wires: usize, qubits: usize, terms: usize) -> u64 {
         unsafe {
@@ -79,22 +80,22 @@ fn dense(seed: u64, gates: usize, wires: usize, rotations: usize) -> List {
 /// A t on every wire, an h between the rounds.
 fn t_wall(gates: usize, wires: usize) -> List {
     let mut list = List::new();
-    while list.len() < 5 * gates {
+    while list.len() < WIDTH * gates {
         (0..wires).for_each(|q| one(&mut list, 2, q));
         one(&mut list, 10, 0);
     }
-    list.truncate(5 * gates);
+    list.truncate(WIDTH * gates);
     list
 }
 
 /// A cz on every pair of neighbours, an h between the rounds.
 fn cz_wall(gates: usize, wires: usize) -> List {
     let mut list = List::new();
-    while list.len() < 5 * gates {
+    while list.len() < WIDTH * gates {
         (0..wires - 1).for_each(|q| two(&mut list, 9, q, q + 1));
         one(&mut list, 10, 0);
     }
-    list.truncate(5 * gates);
+    list.truncate(WIDTH * gates);
     list
 }
 
@@ -102,7 +103,7 @@ fn cz_wall(gates: usize, wires: usize) -> List {
 fn cz_only(seed: u64, gates: usize, wires: usize) -> List {
     let mut r = Random(seed);
     let mut list = List::new();
-    while list.len() < 5 * gates {
+    while list.len() < WIDTH * gates {
         let (p, q) = (r.below(wires), r.below(wires));
         if p != q {
             two(&mut list, 9, p, q);
@@ -123,14 +124,14 @@ fn fourier(gates: usize, wires: usize) -> List {
                 two(&mut list, 8, i, j);
                 list.extend([7, j as i32, 0, 0, -k]);
                 two(&mut list, 8, i, j);
-                if list.len() >= 5 * gates {
+                if list.len() >= WIDTH * gates {
                     break 'full;
                 }
             }
             one(&mut list, 10, i);
         }
     }
-    list.truncate(5 * gates);
+    list.truncate(WIDTH * gates);
     list
 }
 
@@ -149,7 +150,7 @@ fn adder(bits: usize) -> List {
         two(&mut list, 8, a, c);
         toffoli(&mut list, c, b, a);
     }
-    list.truncate(5 * 8192);
+    list.truncate(WIDTH * 8192);
     list
 }
 
@@ -164,7 +165,7 @@ fn compare(name: &str, lists: &[List], wires: usize, qubits: usize, terms: usize
         .iter()
         .map(|list| {
             let mut c = Circuit::with_cbits(wires, 0);
-            list.chunks(5).for_each(|g| c.apply(gates::gate(g)));
+            list.chunks(WIDTH).for_each(|g| c.apply(gates::gate(g)));
             c
         })
         .collect();
@@ -189,7 +190,7 @@ fn compare(name: &str, lists: &[List], wires: usize, qubits: usize, terms: usize
         rounds += 1;
     }
     let (ours, theirs) = (median(ours), median(theirs));
-    let g = lists[0].len() / 5;
+    let g = lists[0].len() / WIDTH;
     println!("| {name} | {g} | {ours:.1} | {theirs:.1} | {:.2} | {:.1} |", ours / theirs, ours * 1000.0 / g as f64);
 }
 

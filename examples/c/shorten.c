@@ -7,17 +7,17 @@
 #define GATES 3
 
 /* Prints the new gates of a list on one wire, or its refusal. */
-static void shorten(const int32_t list[5 * GATES]) {
-    int32_t out[5 * GATES] = {0};
-    uint64_t terms[9 * GATES] = {0}, counts[8] = {0};
-    uint32_t steps[2 * (GATES + 128)] = {0};
-    uint64_t refused = dilkovan_cnot_min(list, 5 * GATES, 1, 0, 128, 512, out, 5 * GATES, terms, 9 * GATES, steps, 2 * (GATES + 128), counts);
+static void shorten(const int32_t list[DILKOVAN_WIDTH * GATES]) {
+    int32_t out[DILKOVAN_WIDTH * GATES] = {0};
+    uint64_t terms[DILKOVAN_TERMS(GATES)] = {0}, counts[8] = {0};
+    uint32_t steps[DILKOVAN_STEPS(GATES)] = {0};
+    uint64_t refused = dilkovan_cnot_min(list, DILKOVAN_WIDTH * GATES, 1, 0, 128, 512, out, DILKOVAN_WIDTH * GATES, terms, DILKOVAN_TERMS(GATES), steps, DILKOVAN_STEPS(GATES), counts);
     if (refused) {
         printf("refused %" PRIu64 " %" PRIu64 "\n", refused >> 32, refused & 0xffffffff);
         return;
     }
     printf("%" PRIu64 " gates in, %" PRIu64 " out:\n", counts[0], counts[1]);
-    for (const int32_t *gate = out; gate < out + 5 * counts[1]; gate += 5)
+    for (const int32_t *gate = out; gate < out + DILKOVAN_WIDTH * counts[1]; gate += DILKOVAN_WIDTH)
         printf("%" PRId32 " %" PRId32 " %" PRId32 " %" PRId32 " %" PRId32 "\n", gate[0], gate[1], gate[2], gate[3], gate[4]);
 }
 

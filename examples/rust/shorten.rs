@@ -2,6 +2,9 @@
 
 use std::io::Write;
 
+/// Numbers to a gate.
+const WIDTH: usize = 5;
+
 extern "C" {
     fn dilkovan_cnot_min(
         list: *const i32, list_length: usize, wires: usize, bits: usize, qubit_cap: usize, term_cap: usize,
@@ -13,7 +16,7 @@ extern "C" {
 
 /// The new gates, or the refusal's number and place.
 fn shorten(list: &[i32], wires: usize, bits: usize, qubit_cap: usize, term_cap: usize) -> Result<Vec<i32>, (u32, u32)> {
-    let g = list.len() / 5;
+    let g = list.len() / WIDTH;
     let (mut out, mut terms, mut steps, mut counts) = (vec![0; list.len()], vec![0; 9 * g], vec![0; 2 * (g + 128)], [0; 8]);
     // Each slice goes as its pointer and its length, and the rooms are apart since each is borrowed as &mut.
     let answer = unsafe {
@@ -25,7 +28,7 @@ fn shorten(list: &[i32], wires: usize, bits: usize, qubit_cap: usize, term_cap: 
     if answer != 0 {
         return Err(((answer >> 32) as u32, answer as u32));
     }
-    out.truncate(5 * counts[1] as usize);
+    out.truncate(WIDTH * counts[1] as usize);
     Ok(out)
 }
 
@@ -47,8 +50,8 @@ fn main() -> std::io::Result<()> {
     for list in lists {
         match shorten(&list, 1, 0, 128, 512) {
             Ok(gates) => {
-                println!("{} gates in, {} out:", list.len() / 5, gates.len() / 5);
-                gates.chunks(5).for_each(|g| println!("{} {} {} {} {}", g[0], g[1], g[2], g[3], g[4]));
+                println!("{} gates in, {} out:", list.len() / WIDTH, gates.len() / WIDTH);
+                gates.chunks(WIDTH).for_each(|g| println!("{} {} {} {} {}", g[0], g[1], g[2], g[3], g[4]));
             }
             Err((number, place)) => println!("refused {number} {place}"),
         }

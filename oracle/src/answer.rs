@@ -2,13 +2,13 @@
 use crate::case::{Answer, Case};
 use crate::circuit::Circuit;
 use crate::cnot_min::cnot_min_with;
-use crate::gates::{gate, numbers};
+use crate::gates::{WIDTH, gate, numbers};
 use crate::paper::{Piece, cut, refusal};
 
 /// What the original makes of a list.
 fn original(case: &Case, list: &[i32]) -> Vec<i32> {
     let mut circuit = Circuit::with_cbits(case.wires as usize, case.bits as usize);
-    list.chunks(5).for_each(|g| circuit.apply(gate(g)));
+    list.chunks(WIDTH).for_each(|g| circuit.apply(gate(g)));
     let new = cnot_min_with(&circuit, case.qubit_cap as usize, case.term_cap as usize);
     new.gates.iter().flat_map(numbers).collect()
 }
@@ -22,9 +22,9 @@ fn blocks(case: &Case, whole: &[i32]) -> [u32; 2] {
     let mut joined = Vec::with_capacity(whole.len());
     for piece in &pieces {
         match piece {
-            Piece::Copied(i) => joined.extend_from_slice(&case.list[5 * i..5 * i + 5]),
+            Piece::Copied(i) => joined.extend_from_slice(&case.list[WIDTH * i..WIDTH * (i + 1)]),
             Piece::Block(run) => {
-                let run = &case.list[5 * run.start..5 * run.end];
+                let run = &case.list[WIDTH * run.start..WIDTH * run.end];
                 // a list that is one block was run already
                 let new = if pieces.len() == 1 { whole.to_vec() } else { original(case, run) };
                 told[0] += 1;
@@ -38,7 +38,7 @@ fn blocks(case: &Case, whole: &[i32]) -> [u32; 2] {
 }
 
 fn having(list: &[i32], codes: [i32; 2]) -> u32 {
-    list.chunks(5).filter(|g| codes.contains(&g[0])).count() as u32
+    list.chunks(WIDTH).filter(|g| codes.contains(&g[0])).count() as u32
 }
 
 pub fn answer(case: &Case) -> Answer {
@@ -49,7 +49,8 @@ pub fn answer(case: &Case) -> Answer {
     let [closed, replaced] = blocks(case, &gates);
     let (old, new) = (&case.list, &gates);
     let (two, t) = ([8, 9], [2, 3]);
+    let gates_of = |list: &[i32]| (list.len() / WIDTH) as u32;
     let counts =
-        [old.len() as u32 / 5, new.len() as u32 / 5, having(old, two), having(new, two), having(old, t), having(new, t), closed, replaced];
+        [gates_of(old), gates_of(new), having(old, two), having(new, two), having(old, t), having(new, t), closed, replaced];
     Answer::Done { counts, gates }
 }

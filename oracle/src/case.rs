@@ -1,4 +1,5 @@
 //! A case and an answer, as `batch_main` reads and writes them.
+use crate::gates::WIDTH;
 use std::fmt;
 use std::io::{self, Read};
 
@@ -26,7 +27,7 @@ pub enum Answer {
 impl Case {
     /// With rooms that are exactly what the list needs.
     pub fn new(wires: u64, bits: u64, qubit_cap: u64, term_cap: u64, list: Vec<i32>) -> Self {
-        let g = list.len() as u64 / 5;
+        let g = (list.len() / WIDTH) as u64;
         Case { wires, bits, qubit_cap, term_cap, out: list.len() as u64, terms: 9 * g, steps: 2 * (g + 128), ask: 0, list }
     }
 
@@ -40,8 +41,8 @@ impl Case {
     /// promised numbers end.
     pub fn right(&self, answer: &Answer) -> u32 {
         let done = matches!(answer, Answer::Done { .. }) as u64;
-        let g = self.list.len() as u64 / 5;
-        let rooms = [(self.out, 5 * g), (self.terms, 9 * g), (self.steps, 2 * (g + 128))];
+        let g = (self.list.len() / WIDTH) as u64;
+        let rooms = [(self.out, WIDTH as u64 * g), (self.terms, 9 * g), (self.steps, 2 * (g + 128))];
         let wrong = |i: usize| self.ask >> i & 1 == 1 && rooms[i].0 > done * rooms[i].1;
         (0..3).filter(|&i| !wrong(i)).map(|i| 1 << i).sum()
     }
@@ -92,7 +93,7 @@ impl Answer {
         if counts[1] > 8192 {
             return Err(io::Error::other(format!("{} gates out", counts[1])));
         }
-        let gates = read_words(input, 5 * counts[1] as usize)?.into_iter().map(|x| x as i32).collect();
+        let gates = read_words(input, WIDTH * counts[1] as usize)?.into_iter().map(|x| x as i32).collect();
         Ok((Answer::Done { counts, gates }, head[1]))
     }
 
@@ -109,7 +110,7 @@ impl fmt::Display for Case {
             "wires {wires}, bits {bits}, caps {qubit_cap} and {term_cap}, rooms {out}, {terms} and {steps}, {} numbers:",
             list.len()
         )?;
-        list.chunks(5).try_for_each(|g| writeln!(f, "  {g:?}"))
+        list.chunks(WIDTH).try_for_each(|g| writeln!(f, "  {g:?}"))
     }
 }
 
@@ -119,7 +120,7 @@ impl fmt::Display for Answer {
             Answer::Refused { number, place } => writeln!(f, "refused {number} {place}"),
             Answer::Done { counts, gates } => {
                 writeln!(f, "done, counts {counts:?}:")?;
-                gates.chunks(5).try_for_each(|g| writeln!(f, "  {g:?}"))
+                gates.chunks(WIDTH).try_for_each(|g| writeln!(f, "  {g:?}"))
             }
         }
     }

@@ -1,5 +1,6 @@
 //! Damaged lists: a good list with one to three faults, so that every number of the table is told, and which comes first when there are several.
 use crate::case::Case;
+use crate::gates::WIDTH;
 use crate::make::{Rng, blocks, random};
 
 const CODES: [i32; 6] = [0, 28, 29, -1, i32::MIN, i32::MAX];
@@ -20,8 +21,8 @@ fn wires_of(code: i32) -> usize {
 
 /// One fault of a kind, if the list has a place for it.
 pub fn fault(r: &mut Rng, case: &mut Case, number: usize) {
-    let g = case.list.len() / 5;
-    let at = if g == 0 { 0 } else { 5 * r.below(g) };
+    let g = case.list.len() / WIDTH;
+    let at = if g == 0 { 0 } else { WIDTH * r.below(g) };
     let gated = g > 0;
     match number {
         1 => {
@@ -34,7 +35,7 @@ pub fn fault(r: &mut Rng, case: &mut Case, number: usize) {
         }
         2 => {
             let gates = r.from(8193, 8199);
-            case.list.resize(5 * gates, 0);
+            case.list.resize(WIDTH * gates, 0);
         }
         3 => {
             let over = r.pick(&[1025, 1026, 1 << 32, u64::MAX]);

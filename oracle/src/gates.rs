@@ -2,6 +2,9 @@
 use crate::circuit::Gate;
 use crate::rest;
 
+/// Numbers to a gate.
+pub const WIDTH: usize = 5;
+
 pub fn gate(n: &[i32]) -> Gate {
     let (a, b, c, turn) = (n[1] as u32, n[2] as u32, n[3] as u32, rest::angle(n[4]));
     let (control, target) = (a, b);
@@ -37,7 +40,7 @@ pub fn gate(n: &[i32]) -> Gate {
     }
 }
 
-pub fn numbers(g: &Gate) -> [i32; 5] {
+pub fn numbers(g: &Gate) -> [i32; WIDTH] {
     let one = |code: i32, q: &u32| [code, *q as i32, 0, 0, 0];
     let two = |code: i32, p: &u32, q: &u32| [code, *p as i32, *q as i32, 0, 0];
     match g {

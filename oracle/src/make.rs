@@ -1,4 +1,5 @@
 //! Lists made from a seed: random gates, and shapes that are often written shorter.
+use crate::gates::WIDTH;
 use crate::case::Case;
 
 /// A small generator of numbers (splitmix64): the same seed makes the same lists everywhere.
@@ -42,7 +43,7 @@ const CNOT: i32 = 8;
 const CZ: i32 = 9;
 const MEASURE: i32 = 27;
 
-pub type Gate = [i32; 5];
+pub type Gate = [i32; WIDTH];
 
 const TURNS: [i32; 20] = [0, 1, 2, 3, 4, 5, 6, 7, 8, 9, -1, -2, -3, -4, -7, -8, -9, i32::MIN, i32::MIN + 1, i32::MAX];
 

@@ -1,5 +1,6 @@
 //! A second reading of document 01, of what the original does not tell: when a list is refused, and where the scan cuts it. It is written from
 //! the document's words alone and shares nothing with the original or with the port.
+use crate::gates::WIDTH;
 use crate::case::Case;
 use std::collections::BTreeSet;
 use std::ops::Range;
@@ -38,13 +39,13 @@ fn fault(gate: &[i32], wires: u64, bits: u64) -> Option<u32> {
 /// The number and the place of document 01's table, or none for an accepted list.
 pub fn refusal(case: &Case) -> Option<(u32, u32)> {
     let n = case.list.len() as u64;
-    let g = n / 5;
+    let g = n / WIDTH as u64;
     let told =
-        [n % 5 != 0, g > 8192, case.wires > 1024 || case.bits > 1024, case.out < n, case.terms / 3 < 3 * g || case.steps / 2 < g + 128];
+        [n % WIDTH as u64 != 0, g > 8192, case.wires > 1024 || case.bits > 1024, case.out < n, case.terms / 3 < 3 * g || case.steps / 2 < g + 128];
     if let Some(k) = told.iter().position(|&t| t) {
         return Some((k as u32 + 1, 0));
     }
-    let mut gates = case.list.chunks(5).enumerate();
+    let mut gates = case.list.chunks(WIDTH).enumerate();
     gates.find_map(|(i, gate)| fault(gate, case.wires, case.bits).map(|number| (number, i as u32)))
 }
 
@@ -118,7 +119,7 @@ impl Block {
 /// The pieces of an accepted list, in order.
 pub fn cut(list: &[i32], qubit_cap: u64, term_cap: u64) -> Vec<Piece> {
     let (qubit_cap, term_cap) = (qubit_cap.clamp(1, 128), term_cap.max(1));
-    let gates: Vec<&[i32]> = list.chunks(5).collect();
+    let gates: Vec<&[i32]> = list.chunks(WIDTH).collect();
     let mut pieces = Vec::new();
     let mut start = 0;
     while start < gates.len() {

@@ -1,4 +1,5 @@
 //! The stored cases and their answers, the same bytes for the same seed: fixed lists, refusals and rooms by the table, and random lists.
+use crate::gates::WIDTH;
 use crate::answer::answer;
 use crate::case::Case;
 use crate::make::{CAPS, Gate, Rng, blocks, flat, names, random, shape, wide};
@@ -68,7 +69,7 @@ fn rooms(out: &mut Vec<Case>) {
 
 /// Rooms that are looked at wrongly, exact and one number larger, of a list that is written shorter and of one that is refused.
 fn looked(out: &mut Vec<Case>) {
-    for list in [sound(2).repeat(2), vec![0; 5]] {
+    for list in [sound(2).repeat(2), vec![0; WIDTH]] {
         let exact = Case::new(1, 0, 128, 512, list);
         for more in [0, 1] {
             for ask in 0..8 {
@@ -98,7 +99,7 @@ fn limits(out: &mut Vec<Case>) {
     }
     // 7 before 8 before 9 within a gate, and the earlier gate first
     for gate in [[8, 0, 0, 1, 0], [8, 3, 3, 0, 0], [8, 3, 3, 1, 0], [24, 1, 2, 1, 0], [27, 0, 1, 0, 0], [27, 0, 0, 0, 0]] {
-        out.push(Case::new(3, 1, 128, 512, flat(&[sound(2), gate, [0; 5]])));
+        out.push(Case::new(3, 1, 128, 512, flat(&[sound(2), gate, [0; WIDTH]])));
     }
 }
 
@@ -126,7 +127,7 @@ fn most(r: &mut Rng, out: &mut Vec<Case>) {
     }
     gates.truncate(8192);
     out.push(Case::new(60, 0, 128, 512, flat(&gates)));
-    out.push(Case::new(60, 0, 128, 512, vec![0; 5 * 8193]));
+    out.push(Case::new(60, 0, 128, 512, vec![0; WIDTH * 8193]));
 }
 
 fn all(lists: &str, seed: u64) -> io::Result<Vec<Case>> {
