@@ -18,6 +18,9 @@ least-requires-2 c κs = search needs
 mul-out-right : tie.Need-mul-out-right
 mul-out-right c = search needs
 
+add-out-right : tie.Need-add-out-right
+add-out-right c = search needs
+
 out-right-requires : tie.Need-out-right-requires
 out-right-requires c κs = search needs
 
@@ -27,6 +30,9 @@ mul-terms-right c = search needs
 mul-terms-right-2 : tie.Need-mul-terms-right-2
 mul-terms-right-2 c = search needs
 
+add-terms-right : tie.Need-add-terms-right
+add-terms-right c = search needs
+
 terms-right-requires : tie.Need-terms-right-requires
 terms-right-requires c κs = search needs
 
@@ -35,6 +41,9 @@ add-steps-right c = search needs
 
 mul-steps-right : tie.Need-mul-steps-right
 mul-steps-right c = search needs
+
+add-steps-right-2 : tie.Need-add-steps-right-2
+add-steps-right-2 c = search needs
 
 steps-right-requires : tie.Need-steps-right-requires
 steps-right-requires c κs = search needs
@@ -68,12 +77,15 @@ tell-done-spec =
     mul-least
     least-requires-2
     mul-out-right
+    add-out-right
     out-right-requires
     mul-terms-right
     mul-terms-right-2
+    add-terms-right
     terms-right-requires
     add-steps-right
     mul-steps-right
+    add-steps-right-2
     steps-right-requires
     rooms-right-requires
     slice-aggregate-put-counts
