@@ -1,12 +1,12 @@
 -- The rooms of an accepted list: what the scan is lent, and what is left in them.
 use mathlib.Core.Path.{_≡_, refl, sym, ap, _∙_}
 use mathlib.Core.List.{List, [], _∷_, _++_, append-nil}
-use Prim.Native.Nat.{ℕ, zero, suc, _+_, _-_, _*_, _/_, _≤_}
+use Prim.Native.Nat.{ℕ, zero, suc, _+_, _-_, _*_, _≤_}
 use native.Mathlib.Omega.{arith}
 use borrow.Rule.Slice.PartMut.{putMid, postOf, midOf}
 use lib.IntN.{ℤ, pos}
 use lib.ListN.{length, getD, take, drop, replicate, length-drop, length-append, length-replicate}
-use lib.Seq.{length-take-le, drop-length, take-at}
+use lib.Seq.{length-take-le, drop-length}
 use Rattle.rules.specs.Limits.{width, maxGates, maxWires, maxColumns, termWidth, stepWidth, termEntries, stepEntries}
 use Rattle.rules.specs.Gate.{Gate}
 use Rattle.rules.specs.Numbers.{gatesOf, numbersOf}

@@ -5,9 +5,8 @@ use Prim.Native.Nat.{ℕ, _-_, _*_, _≤_}
 use lib.IntN.{ℤ, pos}
 use lib.ListN.{length, take, replicate}
 use Rattle.rules.specs.Limits.{width, maxColumns, termWidth, stepWidth, termEntries, stepEntries}
-use Rattle.rules.specs.Gate.{Gate}
 use Rattle.rules.specs.Numbers.{gatesOf, numbersOf}
-use Rattle.rules.specs.Refusal.{accepted, verdict}
+use Rattle.rules.specs.Refusal.{accepted}
 use Rattle.rules.specs.Stretch.{Stretchwise, AlikeGates}
 use Rattle.rules.specs.Counts.{Thrifty}
 use Rattle.rules.specs.Plan.{Plan, planOf}

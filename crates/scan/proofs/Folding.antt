@@ -1,12 +1,12 @@
 -- A run folded gate by gate: what each turn of the loop needs and leaves.
 use mathlib.Core.Path.{_≡_, refl, sym, ap, _∙_}
-use mathlib.Core.Bool.{Bool, true, false}
+use mathlib.Core.Bool.{Bool, true}
 use mathlib.Core.List.{List, [], _∷_, _++_, map}
-use Prim.Native.Nat.{ℕ, zero, suc, _+_, _-_, _*_, _/_, _≤_, _<_}
+use Prim.Native.Nat.{ℕ, suc, _+_, _-_, _*_, _≤_, _<_}
 use native.Mathlib.Omega.{arith}
 use lib.IntN.{ℤ}
-use lib.ListN.{length, getD, length-map}
-use Rattle.rules.specs.Limits.{width, maxColumns, termEntries}
+use lib.ListN.{length, length-map}
+use Rattle.rules.specs.Limits.{termEntries}
 use Rattle.rules.specs.Gate as Paper
 use Rattle.rules.specs.Numbers.{gateAt, gatesFrom, gatesOf}
 use Rattle.rules.specs.Meaning.{Op, op}

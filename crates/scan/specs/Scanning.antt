@@ -1,13 +1,13 @@
 -- What the functions of the scan ask and promise.
 use mathlib.Core.Path.{_≡_}
-use mathlib.Core.Bool.{Bool, false, cond}
-use mathlib.Core.List.{List, [], _∷_, _++_}
-use Prim.Native.Nat.{ℕ, zero, suc, _+_, _-_, _*_, _/_, _≤_, _<_}
+use mathlib.Core.Bool.{false}
+use mathlib.Core.List.{List, [], _++_}
+use Prim.Native.Nat.{ℕ, _+_, _-_, _*_, _/_, _≤_, _<_}
 use lib.IntN.{ℤ}
 use lib.ListN.{length, getD, take}
 use Rattle.rules.specs.Limits.{width, maxGates, maxWires, maxColumns, termEntries, stepWidth, stepEntries}
 use Rattle.rules.specs.Gate.{Gate}
-use Rattle.rules.specs.Numbers.{gateAt, gatesFrom, gatesOf, numbers, numbersOf}
+use Rattle.rules.specs.Numbers.{gateAt, gatesFrom, gatesOf, numbersOf}
 use Rattle.rules.specs.Meaning.{op}
 use Rattle.rules.specs.Refusal.{faultAt}
 use Rattle.rules.specs.Synth.{blockOf}

@@ -1,10 +1,24 @@
 -- `cnot_min::cnot_min_with` meets its contract: refused as the check says, with nothing written, or minimized.
 use mathlib.Core.Path.{_≡_, refl, sym, ap, _∙_}
 use borrow.Author.Needs.{needs}
+use lib.ListN.{length}
+use Rattle.rules.specs.Refusal.{accepted, verdict}
 use Rattle.gate.specs.Verdicts as Gate
 use Rattle.cnot_min.proofs.Promising.{minimizes, refuses}
 use Rattle.cnot_min.proofs.cnot_min_with.Statement.{statement}
 use Rattle.cnot_min.proofs.cnot_min_with.Tie as tie
+
+-- the start, from the check's answer; that answer, from where an accepted list is minimized
+abbrev begin : tie.After-check-list → tie.Start
+begin c = c .before .before .before
+
+abbrev told : tie.After-minimize-arg3 → tie.After-enum-told
+told c = c .before .before .before
+
+-- the list is accepted
+sound : (c : tie.After-enum-told) → let a = begin (c .before .before) .args in
+    verdict (a .list .now) (a .wires) (a .bits) (length (a .out .now)) (length (a .terms .now)) (length (a .steps .now)) ≡ accepted
+sound c = sym ((c .before .before) .check-list .ensures) ∙ ap Gate.verdictOf (c .enum-told .given .1)
 
 check-list-requires : tie.Need-check-list-requires
 check-list-requires c κs = search needs
@@ -16,7 +30,7 @@ enum-told : tie.Need-enum-told
 enum-told c = search needs
 
 minimize-requires : tie.Need-minimize-requires
-minimize-requires c κs = sym ((c .before .before .before .before .before) .check-list .ensures) ∙ ap Gate.verdictOf ((c .before .before .before) .enum-told .given .1)
+minimize-requires c κs = sound (told c)
 
 same-length : tie.Need-same-length
 same-length c = search needs
@@ -28,10 +42,17 @@ same-length-3 : tie.Need-same-length-3
 same-length-3 c = search needs
 
 returns : tie.Need-returns
-returns c = let a = (c .before .before .before .before .before .before .before .before .before .before .before .before .before .before) .args in minimizes (a .list .now) (a .wires) (a .bits) (a .qubit-cap) (a .term-cap) (a .out .now) (a .terms .now) (a .steps .now) ((c .before .before .before .before .before) .minimize .result) _ _ _ (sym ((c .before .before .before .before .before .before .before .before .before .before .before) .check-list .ensures) ∙ ap Gate.verdictOf ((c .before .before .before .before .before .before .before .before .before) .enum-told .given .1)) ((c .before .before .before .before .before) .minimize .ensures)
+returns c =
+    let m = c .before .before .before .before .before in
+    let t = told (m .before) in
+    let a = begin (t .before .before) .args in
+    minimizes (a .list .now) (a .wires) (a .bits) (a .qubit-cap) (a .term-cap) (a .out .now) (a .terms .now) (a .steps .now) (m .minimize .result) _ _ _ (sound t) (m .minimize .ensures)
 
 returns-2 : tie.Need-returns-2
-returns-2 c = let a = (c .before .before .before .before .before .before) .args in refuses (a .list .now) (a .wires) (a .bits) (a .qubit-cap) (a .term-cap) (a .out .now) (a .terms .now) (a .steps .now) _ _ refl (sym ((c .before .before .before) .check-list .ensures) ∙ ap Gate.verdictOf ((c .before) .refusal .given .1))
+returns-2 c =
+    let k = c .before .before .before in
+    let a = begin k .args in
+    refuses (a .list .now) (a .wires) (a .bits) (a .qubit-cap) (a .term-cap) (a .out .now) (a .terms .now) (a .steps .now) _ _ refl (sym (k .check-list .ensures) ∙ ap Gate.verdictOf ((c .before) .refusal .given .1))
 
 pub cnot-min-with-spec : {M : Type 1} → statement M
 cnot-min-with-spec =

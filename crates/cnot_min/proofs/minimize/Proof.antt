@@ -1,5 +1,5 @@
 -- `cnot_min::minimize` meets its contract: the needed parts are lent, and the rest is as it was.
-use mathlib.Core.Path.{_≡_, sym, ap, _∙_, subst}
+use mathlib.Core.Path.{sym, subst}
 use Prim.Native.Nat.{_≤_, _*_}
 use borrow.Author.Needs.{needs}
 use lib.ListN.{length}

@@ -1,9 +1,7 @@
 -- `flush::flush` meets its contract: written again in the parts that the block needs, settled, and the wires leave.
 use mathlib.Core.Path.{sym, _∙_}
-use Prim.Native.Nat.{_+_, _*_, _/_}
 use native.Mathlib.Omega.{arith}
 use borrow.Author.Needs.{needs}
-use lib.ListN.{length}
 use lib.Seq.{length-take-le}
 use Rattle.rules.specs.Pass.{writerOf}
 use Rattle.rules.proofs.Reading.{gates-length}

@@ -1,6 +1,6 @@
 -- `scan::close` meets its contract: what `flush` says of the run, which is the list's part, at the part of the output that lies behind the first m gates.
 use mathlib.Core.Path.{_≡_, sym, ap, _∙_}
-use Prim.Native.Nat.{_+_, _-_, _*_, _≤_}
+use Prim.Native.Nat.{_+_, _-_, _*_}
 use native.Mathlib.Omega.{arith}
 use borrow.Author.Needs.{needs}
 use lib.ListN.{length}

@@ -1,6 +1,5 @@
 -- `scan::piece` meets its contract: the run from the next gate on is empty, and the gate is copied, or it is a block.
-use mathlib.Core.Path.{_≡_, _∙_}
-use Prim.Native.Nat.{_+_, _≤_, _<_}
+use mathlib.Core.Path.{_∙_}
 use native.Mathlib.Omega.{arith}
 use borrow.Author.Needs.{needs}
 use Rattle.rules.specs.Pass.{writerOf}

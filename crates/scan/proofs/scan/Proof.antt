@@ -1,14 +1,12 @@
 -- `scan::scan` meets its contract: what stands in the output, with what is made of the rest, is what is made of the list.
 use mathlib.Core.Path.{_≡_, refl, sym, _∙_}
 use mathlib.Core.List.{List}
-use Prim.Native.Nat.{ℕ, _-_, _*_, _≤_}
+use Prim.Native.Nat.{ℕ, _-_, _*_}
 use native.Mathlib.Omega.{arith}
-use borrow.Author.Needs.{needs}
 use lib.IntN.{ℤ}
 use lib.ListN.{length}
 use Rattle.rules.specs.Limits.{maxColumns}
 use Rattle.rules.specs.Plan.{Plan}
-use Rattle.rules.specs.Scan.{Writer}
 use Rattle.rules.specs.Pass.{writerOf}
 use Rattle.terms.proofs.Room.{room-same}
 use Rattle.plan.specs.View.{view}
