@@ -10,7 +10,7 @@ use Rattle.rules.specs.Fold.{Row, entered}
 use Rattle.gate.specs.Writing.{gateOf}
 use Rattle.gate.specs.declared.Gate.{Gate}
 use Rattle.terms.specs.Terms.{termsOf}
-use Rattle.block.specs.View.{rowsAt, Joined, Holds, Sound}
+use Rattle.block.specs.View.{rowsAt, Joined, Holds, InStep}
 use Rattle.block.specs.Steps.{Behind, Wired}
 use Rattle.block.specs.declared.Block.{Block}
 
@@ -31,7 +31,7 @@ pub record Absorbs (p : Paper.Block) (b r : Block) (names rows room table′ nam
 
 -- what the fold of a gate asks: one of the fragment, with an index for each of its wires and room for three terms more
 pub record Absorbable (b : Block) (g : Gate) (table names rows room : List ℕ) : Type 0 where
-  pub sound : Sound b table names rows room
+  pub sound : InStep b table names rows room
   pub wired : Wired g table
   pub least : 1 ≤ g .code
   pub most : g .code ≤ lastFragment

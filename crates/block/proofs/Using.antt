@@ -10,7 +10,7 @@ use Rattle.rules.specs.Fold.{Block}
 use Rattle.rules.proofs.Accepting.{Fit}
 use Rattle.gate.specs.Reading.{Reads}
 use Rattle.gate.specs.declared.Gate.{Gate}
-use Rattle.block.specs.View.{blockAt, Holds, Sound}
+use Rattle.block.specs.View.{blockAt, Holds, InStep}
 use Rattle.block.specs.Steps.{Wired}
 use Rattle.block.specs.declared.Block as State
 use Rattle.block.proofs.Entering.{rowed-is}
@@ -19,7 +19,7 @@ module _ {p : Block} {b : State.Block} {table names rows room : List ℕ} (h : H
   pub holds-same : blockAt b names rows room ≡ p
   holds-same = ap₂ (λ rs ts. record { rows = rs; terms = ts }) (h .rows-are .same) (h .terms-are .same)
 
-  pub holds-sound : Sound b table names rows room
+  pub holds-sound : InStep b table names rows room
   holds-sound = record { rows-are = rowed-is (h .rows-are); terms-are = record { few = h .terms-are .few; same = refl } }
 
 pub wired-read : (w bits : ℕ) (p : Codes.Gate) (g : Gate) (table : List ℕ) → Fit w bits (p .code) (p .first) (p .second) (p .third) (p .turn) → Reads p g → length table ≡ w → Wired g table

@@ -52,5 +52,5 @@ pub record Holds (p : Paper.Block) (b : Block) (table names rows room : List ℕ
 abbrev pub Rowed : Block → List ℕ → List ℕ → List ℕ → Type 0
 Rowed b table names rows = Joined (rowsAt b names rows) b table names rows
 
-abbrev pub Sound : Block → List ℕ → List ℕ → List ℕ → List ℕ → Type 0
-Sound b table names rows room = Holds (blockAt b names rows room) b table names rows room
+abbrev pub InStep : Block → List ℕ → List ℕ → List ℕ → List ℕ → Type 0
+InStep b table names rows room = Holds (blockAt b names rows room) b table names rows room

@@ -40,7 +40,7 @@ Filled limit Lost o m room = Over limit o
 
 -- what filling a column's diagonal answers and leaves, after k additions
 pub record Given (limit k column : ℕ) (r : Closed) (m m′ room room′ : List ℕ) : Type 0 where
-  pub told : Filled limit r (diagonal (length (rowsOf m)) column (held m room k)) m′ room′
+  pub answer : Filled limit r (diagonal (length (rowsOf m)) column (held m room k)) m′ room′
   pub beyond : drop (2 * (limit + 1)) room′ ≡ drop (2 * (limit + 1)) room
 
 -- k additions are all that are wanted, and the room begins with them
@@ -51,11 +51,11 @@ pub record Made (limit k : ℕ) (o : Option Adds) (room : List ℕ) : Type 0 whe
   pub few : k ≤ limit
   pub listed : take k (stepsOf room) ≡ end .adds
 
-abbrev pub Told : ℕ → Closed → Option Adds → List ℕ → Type 0
-Told limit (Steps k) o room = Made limit k o room
-Told limit Lost o room = Over limit o
+abbrev pub Answers : ℕ → Closed → Option Adds → List ℕ → Type 0
+Answers limit (Steps k) o room = Made limit k o room
+Answers limit Lost o room = Over limit o
 
 -- what a reduction answers, and leaves in its step room: `rows` are taken to the identity, and nothing is written past one entry more than the limit
 pub record Reduced (limit : ℕ) (r : Closed) (rows before after : List ℕ) : Type 0 where
-  pub told : Told limit r (wanted rows) after
+  pub answer : Answers limit r (wanted rows) after
   pub beyond : drop (2 * (limit + 1)) after ≡ drop (2 * (limit + 1)) before

@@ -21,7 +21,7 @@ use Rattle.parity.specs.declared.Parity.{Parity}
 use Rattle.parity.specs.View.{val}
 use Rattle.emit.specs.Emitted.{Ready}
 use Rattle.walk.specs.declared.Slot.{Slot}
-use Rattle.walk.specs.Stack.{noSlot, stackOf, Sound, first}
+use Rattle.walk.specs.Stack.{noSlot, stackOf, Laid, first}
 use Rattle.walk.specs.Place.{Wires, Place, stack, Standing, Stepped, Synthesized}
 use Rattle.walk.proofs.Stacks.{stack-at, sound-at}
 use Rattle.walk.proofs.Making.{Partly, partly-first, partly-next, partly-end}
@@ -112,7 +112,7 @@ module _ (names : List ℕ) (n : ℕ) (k : length names ≡ n) (ss old : List Sl
   first-left = ap₂ left k first-stack
 
   pub first-standing : (m : List ℕ) (out : List ℤ) (b : Budget) → Wires names → length m ≡ n → Ready out b → Standing names (place ss ts m out 1 end b)
-  unfolding Sound
+  unfolding Laid
   first-standing m out b w many r =
       record {
         wires = w;

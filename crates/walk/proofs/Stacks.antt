@@ -13,7 +13,7 @@ use Rattle.rules.proofs.Walking.{crossAll}
 use Rattle.rules.proofs.Machine.{crossStack, cross-cons, cross-empty}
 use Rattle.parity.specs.View.{val}
 use Rattle.walk.specs.declared.Slot.{Slot}
-use Rattle.walk.specs.Stack.{noSlot, aimOf, nodeOf, stackOf, Aimed, Sound}
+use Rattle.walk.specs.Stack.{noSlot, aimOf, nodeOf, stackOf, Aimed, Laid}
 
 -- a part by its length is the part by its end
 pub slice-part : (a e : ℕ) (ts : List Term) → take (e - a) (drop a ts) ≡ slice a e ts
@@ -60,10 +60,10 @@ stack-top ss (suc d) ts end s h e =
 pub record Top (n : ℕ) (ss : List Slot) (depth end : ℕ) (s : Slot) : Type 0 where
   pub start : s .start ≤ end
   pub aimed : Aimed n s
-  pub rest : Sound n ss (depth - 1) (s .start)
+  pub rest : Laid n ss (depth - 1) (s .start)
 
-pub sound-top : (n : ℕ) (ss : List Slot) (depth end : ℕ) (s : Slot) → 0 < depth → s ≡ getD ss (depth - 1) noSlot → Sound n ss depth end → Top n ss depth end s
-unfolding Sound
+pub sound-top : (n : ℕ) (ss : List Slot) (depth end : ℕ) (s : Slot) → 0 < depth → s ≡ getD ss (depth - 1) noSlot → Laid n ss depth end → Top n ss depth end s
+unfolding Laid
 sound-top n ss zero end s h e k = absurd (not-suc-le-zero h)
 sound-top n ss (suc d) end s h e k =
     let f : s ≡ getD ss d noSlot = e ∙ ap (λ (k : ℕ). getD ss k noSlot) (one d) in
@@ -78,9 +78,9 @@ pub stack-at : (ss : List Slot) (depth : ℕ) (ts : List Term) (end at : ℕ) �
 unfolding stackOf
 stack-at ss depth ts end at k s e = rw (k, add-one at, e)
 
-pub sound-at : (n : ℕ) (ss : List Slot) (depth end at : ℕ) → depth ≡ at + 1 → (s : Slot) → s ≡ getD ss at noSlot → s .start ≤ end → Aimed n s → Sound n ss at (s .start)
-    → Sound n ss depth end
-unfolding Sound
+pub sound-at : (n : ℕ) (ss : List Slot) (depth end at : ℕ) → depth ≡ at + 1 → (s : Slot) → s ≡ getD ss at noSlot → s .start ≤ end → Aimed n s → Laid n ss at (s .start)
+    → Laid n ss depth end
+unfolding Laid
 sound-at n ss depth end at k s e a b c = rw (k, add-one at, ← e) (a, (b, c))
 
 -- ---- a store at or above the stack's height
@@ -91,8 +91,8 @@ stack-slots ss i x zero ts end h = refl
 stack-slots ss i x (suc d) ts end h =
     rw (getD-set-other ss i d x noSlot (λ q. omega arith)) (ap (λ (st : List Node). nodeOf (getD ss d noSlot) ts end ∷ st) (stack-slots ss i x d ts (getD ss d noSlot .start) (omega arith)))
 
-pub sound-slots : (n : ℕ) (ss : List Slot) (i : ℕ) (x : Slot) (d end : ℕ) → d ≤ i → Sound n ss d end → Sound n (set ss i x) d end
-unfolding Sound
+pub sound-slots : (n : ℕ) (ss : List Slot) (i : ℕ) (x : Slot) (d end : ℕ) → d ≤ i → Laid n ss d end → Laid n (set ss i x) d end
+unfolding Laid
 sound-slots n ss i x zero end h k = tt
 sound-slots n ss i x (suc d) end h k =
     rw (getD-set-other ss i d x noSlot (λ q. omega arith)) (k .0, (k .1 .0, sound-slots n ss i x d (getD ss d noSlot .start) (omega arith) (k .1 .1)))
@@ -102,8 +102,8 @@ sound-slots n ss i x (suc d) end h k =
 take-down : (a e : ℕ) (ts us : List Term) → a ≤ e → take e ts ≡ take e us → take a ts ≡ take a us
 take-down a e ts us l h = sym (take-take a e ts l) ∙ ap (take a) h ∙ take-take a e us l
 
-pub stack-terms : (n : ℕ) (ss : List Slot) (d : ℕ) (ts us : List Term) (end : ℕ) → Sound n ss d end → take end ts ≡ take end us → stackOf ss d ts end ≡ stackOf ss d us end
-unfolding stackOf Sound
+pub stack-terms : (n : ℕ) (ss : List Slot) (d : ℕ) (ts us : List Term) (end : ℕ) → Laid n ss d end → take end ts ≡ take end us → stackOf ss d ts end ≡ stackOf ss d us end
+unfolding stackOf Laid
 stack-terms n ss zero ts us end k h = refl
 stack-terms n ss (suc d) ts us end k h =
     let s = getD ss d noSlot in
@@ -138,9 +138,9 @@ all-drop [] k ts = refl
 all-drop (cn p t ∷ ss) k ts = all-drop ss k (crossTerms p t ts) ∙ ap (crossAll ss) (cross-drop p t k ts)
 all-drop (rot q j ∷ ss) k ts = all-drop ss k ts
 
-pub stack-cross : (n : ℕ) (ss : List Step) (sl : List Slot) (d : ℕ) (ts us : List Term) (end : ℕ) → Sound n sl d end → take end us ≡ crossAll ss (take end ts)
+pub stack-cross : (n : ℕ) (ss : List Step) (sl : List Slot) (d : ℕ) (ts us : List Term) (end : ℕ) → Laid n sl d end → take end us ≡ crossAll ss (take end ts)
     → stackOf sl d us end ≡ crossStack ss (stackOf sl d ts end)
-unfolding stackOf Sound
+unfolding stackOf Laid
 stack-cross n ss sl zero ts us end k h = sym (cross-empty ss)
 stack-cross n ss sl (suc d) ts us end k h =
     let s = getD sl d noSlot in

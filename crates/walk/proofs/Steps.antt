@@ -27,7 +27,7 @@ use Rattle.parity.specs.declared.Parity.{Parity}
 use Rattle.parity.specs.View.{val}
 use Rattle.emit.specs.Emitted.{Emits}
 use Rattle.walk.specs.declared.Slot.{Slot}
-use Rattle.walk.specs.Stack.{nothing, noSlot, aimTo, aimOf, owing, nodeOf, stackOf, Aimed, Sound, takes, leaves, paid, narrowed, Branched}
+use Rattle.walk.specs.Stack.{nothing, noSlot, aimTo, aimOf, owing, nodeOf, stackOf, Aimed, Laid, takes, leaves, paid, narrowed, Branched}
 use Rattle.walk.specs.Place.{Place, stack, Standing, Stepped, Paid, Descends}
 use Rattle.walk.proofs.Stacks.{slice-rest, stack-length, stack-top, stack-at, sound-at, Top, sound-top, stack-slots, sound-slots, stack-terms, stack-cross}
 use Rattle.walk.proofs.Aims.{aim-owes, aim-settled, aim-paid, takes-cands, takes-start, takes-aim, takes-aimed, leaves-aimed, settled-to, visit-none, visit-pay, visit-leaf, visit-split}
@@ -78,8 +78,8 @@ module _ (names : List ℕ) (p : Place) (h : Standing names p) (at : ℕ) (k : p
   pub top-start : d .start ≤ p .end
   top-start = top .start
 
-  rest-sound : Sound (length names) (p .slots) at (d .start)
-  rest-sound = subst (λ (j : ℕ). Sound (length names) (p .slots) j (d .start)) (less (p .depth) at k) (top .rest)
+  rest-sound : Laid (length names) (p .slots) at (d .start)
+  rest-sound = subst (λ (j : ℕ). Laid (length names) (p .slots) j (d .start)) (less (p .depth) at k) (top .rest)
 
   -- its candidates are among the columns
   pub top-cands : val (d .cands) < 2 ^ length names
@@ -139,7 +139,7 @@ module _ (names : List ℕ) (p : Place) (h : Standing names p) (at : ℕ) (k : p
         leads = by-visit _ r;
         made = made-none names (p .out) (p .budget) (p .rows) (h .ready);
         stack = stacked-is (ap (stackOf (p .slots) at (p .terms)) (sym q));
-        sound = subst (Sound (length names) (p .slots) at) q rest-sound;
+        sound = subst (Laid (length names) (p .slots) at) q rest-sound;
         fits = h .fits;
       }
 
@@ -198,7 +198,7 @@ module _ (names : List ℕ) (p : Place) (h : Standing names p) (at : ℕ) (k : p
         stack = stacked-is s-top;
         sound = sound-at (length names) ss (p .depth) (p .end) at k (paid d) got (top .start)
             (record { target = top .aimed .target; owed = λ x. absurd (x refl); apart = top .aimed .apart })
-            (subst (λ (x : List Slot). Sound (length names) x at (d .start)) (sym f) (sound-slots (length names) (p .slots) at (paid d) at (d .start) (omega arith) rest-sound));
+            (subst (λ (x : List Slot). Laid (length names) x at (d .start)) (sym f) (sound-slots (length names) (p .slots) at (paid d) at (d .start) (omega arith) rest-sound));
         fits = omega (arith, h .fits);
       }
 
@@ -279,12 +279,12 @@ module _ (names : List ℕ) (p : Place) (h : Standing names p) (at : ℕ) (k : p
       let s-y : stackOf ss (p .depth + 1) ts (p .end) ≡ node rest (aimTo (d .target)) (slice (d .start + br .ones) (p .end) ts) ∷ after =
       stack-at ss (p .depth + 1) ts (p .end) (at + 1) (omega arith) y got-y
       ∙ ap₂ (λ (u : Node) (v : List Node). u ∷ v) (ap (λ (v : Aim). node rest v (slice (d .start + br .ones) (p .end) ts)) a) s-x in
-      let sound-below : Sound (length names) ss at (d .start) =
-      subst (λ (l : List Slot). Sound (length names) l at (d .start)) (sym (br .slots))
+      let sound-below : Laid (length names) ss at (d .start) =
+      subst (λ (l : List Slot). Laid (length names) l at (d .start)) (sym (br .slots))
       (sound-slots (length names) mid (at + 1) y at (d .start) (omega arith) (sound-slots (length names) (p .slots) at x at (d .start) (omega arith) rest-sound)) in
-      let sound-x : Sound (length names) ss (at + 1) (d .start + br .ones) =
+      let sound-x : Laid (length names) ss (at + 1) (d .start + br .ones) =
       sound-at (length names) ss (at + 1) (d .start + br .ones) at refl x got-x (omega (arith, x-start)) (takes-aimed (narrowed d live) (br .rest) c (br .less) c-in (length names) near c-lt)
-      (subst (Sound (length names) ss at) (sym x-start) sound-below) in
+      (subst (Laid (length names) ss at) (sym x-start) sound-below) in
       record {
         steps = [];
         next = node rest (aimTo (d .target)) (side false c us) ∷ after;

@@ -21,7 +21,7 @@ use Rattle.rows.specs.Rows.{rowsOf}
 use Rattle.emit.specs.Emitted.{Ready, Emits}
 use Rattle.walk.specs.declared.Slot.{Slot}
 use Rattle.walk.specs.declared.State.{State}
-use Rattle.walk.specs.Stack.{nodeWidth, slotsOf, stackOf, Sound, paid, Chosen}
+use Rattle.walk.specs.Stack.{nodeWidth, slotsOf, stackOf, Laid, paid, Chosen}
 
 -- a block's wires by local index: at most 128, each a number that a gate can hold
 pub record Wires (names : List ℕ) : Type 0 where
@@ -52,7 +52,7 @@ stateOf depth end w = record { depth = depth; end = end; budget = w .budget; wit
 -- what holds before each turn
 pub record Standing (names : List ℕ) (p : Place) : Type 0 where
   pub wires : Wires names
-  pub sound : Sound (length names) (p .slots) (p .depth) (p .end)
+  pub sound : Laid (length names) (p .slots) (p .depth) (p .end)
   pub stairs : Stairs (length names) (stack p)
   pub fits : p .end ≤ length (p .terms)
   pub wide : length names + 1 ≤ length (p .slots)
@@ -71,7 +71,7 @@ pub record Stepped (names : List ℕ) (p q : Place) (within : Bool) : Type 0 whe
   pub leads : Leads (length names) (stack p) steps next
   pub made : Synthesized names steps (p .out) (p .budget) (p .rows) (q .out) (q .budget) (q .rows) within
   pub stack : Stacked (stackOf (q .slots) (q .depth) (q .terms) (q .end)) next
-  pub sound : Sound (length names) (q .slots) (q .depth) (q .end)
+  pub sound : Laid (length names) (q .slots) (q .depth) (q .end)
   pub fits : q .end ≤ length (q .terms)
 
 -- the node d at the place `at` pays what it owes: the CNOT is emitted, its row added, the terms before its set take note, and it owes nothing

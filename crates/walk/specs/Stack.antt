@@ -65,9 +65,9 @@ pub record Aimed (n : ℕ) (s : Slot) : Type 0 where
   pub apart : s .target ≢ nothing → bit (val (s .cands)) (s .target) ≡ false
 
 -- of the first `depth` nodes each set begins where the one before it ends, and the columns are among n
-unfoldable pub Sound : ℕ → List Slot → ℕ → ℕ → Type 0
-Sound n ss zero end = Unit {0}
-Sound n ss (suc d) end = let s = getD ss d noSlot in (s .start ≤ end) × (Aimed n s × Sound n ss d (s .start))
+unfoldable pub Laid : ℕ → List Slot → ℕ → ℕ → Type 0
+Laid n ss zero end = Unit {0}
+Laid n ss (suc d) end = let s = getD ss d noSlot in (s .start ≤ end) × (Aimed n s × Laid n ss d (s .start))
 
 -- the side with the column c: it takes c as target or, with a target, owes c to it
 abbrev pub takes : Slot → Parity → ℕ → Slot

@@ -47,7 +47,7 @@ same-length c = search needs
 
 returns : tie.Need-returns
 unfolding held
-returns c = record { told = (diagonal-have _ _ _ (cc), search needs); beyond = refl }
+returns c = record { answer = (diagonal-have _ _ _ (cc), search needs); beyond = refl }
 
 cast-find : tie.Need-cast-find
 cast-find c = search needs
@@ -71,7 +71,7 @@ returns-2 : tie.Need-returns-2
 unfolding held begun
 returns-2 c =
     record {
-      told = rw (diagonal-none _ _ (begun (c .before .before .before .before .before .before .before .before .before .before)) (missing (c .before .before .before .before)) (found-none _ _ ((c .before .before) .find .ensures) (c .enum-told .given .1))) tt;
+      answer = rw (diagonal-none _ _ (begun (c .before .before .before .before .before .before .before .before .before .before)) (missing (c .before .before .before .before)) (found-none _ _ ((c .before .before) .find .ensures) (c .enum-told .given .1))) tt;
       beyond = refl;
     }
 
@@ -83,7 +83,7 @@ unfolding held
 returns-3 c =
     let s = (c .before .before .before .before .before .before .before .before .before .before .before .before) .args in
     record {
-      told = lost-give (s .m .now) (s .steps .now) (s .k) (omega arith) _ _ _ _ (diagonal-give _ _ _ _ (missing (c .before .before .before .before .before .before)) (found (c .before .before))) (c .if2 .taken);
+      answer = lost-give (s .m .now) (s .steps .now) (s .k) (omega arith) _ _ _ _ (diagonal-give _ _ _ _ (missing (c .before .before .before .before .before .before)) (found (c .before .before))) (c .if2 .taken);
       beyond = refl;
     }
 
@@ -108,7 +108,7 @@ returns-4 c =
     let s = (c .before .before .before .before .before .before .before .before .before .before .before .before .before .before .before .before .before .before .before .before) .args in
     let w = (c .before .before) .note .ensures in
     record {
-      told = (diagonal-give _ _ _ _ (missing (c .before .before .before .before .before .before .before .before .before .before .before .before .before .before)) (found (c .before .before .before .before .before .before .before .before .before .before)) ∙ ap some (add-held _ (s .m .now) ((c .before .before .before .before .before .before) .add .last .0) _ _ _ _ w (omega arith) ((c .before .before .before .before .before .before) .add .ensures)), omega arith);
+      answer = (diagonal-give _ _ _ _ (missing (c .before .before .before .before .before .before .before .before .before .before .before .before .before .before)) (found (c .before .before .before .before .before .before .before .before .before .before)) ∙ ap some (add-held _ (s .m .now) ((c .before .before .before .before .before .before) .add .last .0) _ _ _ _ w (omega arith) ((c .before .before .before .before .before .before) .add .ensures)), omega arith);
       beyond = w .beyond (2 * (s .limit + 1)) (omega arith);
     }
 

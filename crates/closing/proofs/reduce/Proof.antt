@@ -58,7 +58,7 @@ ready c =
     let n = length (rowsOf (s .m .now)) in
     let k = c .filled .given .0 .0 in
     let h = more (c .before .before .before .before .before .before .before .before .before) in
-    let t : Filled (s .limit) (Steps k) (diagonal n (l .column) (held (l .m) (l .steps) (l .k))) (d .last .0) (d .last .1 .0) = rw (c .filled .given .1, h .1) at (d .ensures .told) in
+    let t : Filled (s .limit) (Steps k) (diagonal n (l .column) (held (l .m) (l .steps) (l .k))) (d .last .0) (d .last .1 .0) = rw (c .filled .given .1, h .1) at (d .ensures .answer) in
     let e : length (d .last .0) ≡ length (s .m .now) = d .kept .0 ∙ l .inv .0 in
     let f : length (rowsOf (d .last .0)) ≡ n = omega (arith, row-count (d .last .0), row-count (s .m .now)) in (
       e,
@@ -189,7 +189,7 @@ returns : tie.Need-returns Inv-loop μ-loop Inv-columns μ-columns
 returns c =
     let l = (c .before) .columns in
     record {
-      told = made (l .m) (l .steps) (l .k) (omega arith) _ _ _ _ (l .inv .5) (omega (arith, row-count ((c .before .before .before .before) .args .m .now))) (l .inv .3);
+      answer = made (l .m) (l .steps) (l .k) (omega arith) _ _ _ _ (l .inv .5) (omega (arith, row-count ((c .before .before .before .before) .args .m .now))) (l .inv .3);
       beyond = l .inv .4;
     }
 
@@ -205,8 +205,8 @@ returns-2 c =
     let d = (c .before .before .before .before .before .before) .diagonal in
     let h = more (c .before .before .before .before .before .before .before .before .before) in
     let n = length (rowsOf ((c .before .before .before .before .before .before .before .before .before .before .before .before .before) .args .m .now)) in
-    let t : Over ((c .before .before .before .before .before .before .before .before .before .before .before .before .before) .args .limit) (diagonal n (l .column) (held (l .m) (l .steps) (l .k))) = rw (c .enum-told .given .1, h .1) at (d .ensures .told) in
-    record { told = lost-diagonal _ _ _ _ _ (l .inv .5) (h .0) t; beyond = d .ensures .beyond ∙ l .inv .4 }
+    let t : Over ((c .before .before .before .before .before .before .before .before .before .before .before .before .before) .args .limit) (diagonal n (l .column) (held (l .m) (l .steps) (l .k))) = rw (c .enum-told .given .1, h .1) at (d .ensures .answer) in
+    record { answer = lost-diagonal _ _ _ _ _ (l .inv .5) (h .0) t; beyond = d .ensures .beyond ∙ l .inv .4 }
 
 same-length-5 : tie.Need-same-length-5 Inv-loop μ-loop Inv-columns μ-columns
 same-length-5 c = (c .before .before .before .before .before .before .before) .add-kept .kept .0 ∙ (c .before .before .before .before .before .before .before .before .before .before .before .before .before) .loop .inv .0 ∙ ready (c .before .before .before .before .before .before .before .before .before .before .before .before .before .before .before .before .before) .0
@@ -221,7 +221,7 @@ returns-3 c =
     let j = ready (c .before .before .before .before .before .before .before .before .before .before .before .before .before .before .before .before .before) in
     let w = (c .before .before .before) .note in
     record {
-      told = lost-row ((c .before .before .before .before .before .before .before) .add-kept .last .0) (w .last .0) (l .k + boolByte ((c .before .before .before .before .before .before .before .before .before) .other .result)) (omega (arith, l .inv .3, byte-le ((c .before .before .before .before .before .before .before .before .before) .other .result), w .kept .0)) _ _ _ _ _ _ _ _ _ (j .5) (turned (c .before)) (c .if2 .taken);
+      answer = lost-row ((c .before .before .before .before .before .before .before) .add-kept .last .0) (w .last .0) (l .k + boolByte ((c .before .before .before .before .before .before .before .before .before) .other .result)) (omega (arith, l .inv .3, byte-le ((c .before .before .before .before .before .before .before .before .before) .other .result), w .kept .0)) _ _ _ _ _ _ _ _ _ (j .5) (turned (c .before)) (c .if2 .taken);
       beyond = w .ensures .beyond (2 * ((c .before .before .before .before .before .before .before .before .before .before .before .before .before .before .before .before .before .before .before .before .before .before .before .before .before .before .before .before .before .before) .args .limit + 1)) (omega (arith, l .inv .3)) ∙ l .inv .4 ∙ j .4;
     }
 

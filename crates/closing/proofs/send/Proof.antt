@@ -23,7 +23,7 @@ limited c =
 
 -- k additions are all of it
 ended : (c : tie.After-k) → Made ((c .before .before .before .before .before .before .before .before .before) .limit-of .result) (c .k .given .0 .0) (wanted (rowsOf ((entered (c .before .before .before .before .before .before .before .before .before .before .before)) .args .m .now))) ((c .before .before .before .before .before .before) .reduce .last .1 .0)
-ended c = rw (c .k .given .1) at ((c .before .before .before .before .before .before) .reduce .ensures .told)
+ended c = rw (c .k .given .1) at ((c .before .before .before .before .before .before) .reduce .ensures .answer)
 
 left-of-requires : tie.Need-left-of-requires
 left-of-requires c κs = search needs
@@ -49,7 +49,7 @@ same-length-2 c = search needs
 
 returns : tie.Need-returns
 returns c = let s = (entered (c .before .before .before .before .before .before .before .before .before .before .before)) .args in let p = (entered (c .before .before .before .before .before .before .before .before .before .before .before)) .pre .1 in
-    sends-lost (p .from) (p .to) (rowsOf ((entered (c .before .before .before .before .before .before .before .before .before .before .before)) .args .m .now)) (p .square) (p .closes) _ _ _ (over-square (leftOf (view (s .b))) (rowsOf ((entered (c .before .before .before .before .before .before .before .before .before .before .before)) .args .m .now)) (subst (λ (z : ℕ). Over z (wanted (rowsOf (s .m .now)))) (limited (c .before .before .before .before .before .before .before .before .before)) (rw (c .enum-told .given .1) at ((c .before .before .before .before .before .before) .reduce .ensures .told))))
+    sends-lost (p .from) (p .to) (rowsOf ((entered (c .before .before .before .before .before .before .before .before .before .before .before)) .args .m .now)) (p .square) (p .closes) _ _ _ (over-square (leftOf (view (s .b))) (rowsOf ((entered (c .before .before .before .before .before .before .before .before .before .before .before)) .args .m .now)) (subst (λ (z : ℕ). Over z (wanted (rowsOf (s .m .now)))) (limited (c .before .before .before .before .before .before .before .before .before)) (rw (c .enum-told .given .1) at ((c .before .before .before .before .before .before) .reduce .ensures .answer))))
 
 emit-steps-requires : tie.Need-emit-steps-requires
 emit-steps-requires c κs = let p = (entered (c .before .before .before .before .before .before .before .before .before .before .before .before .before .before)) .pre .1 in let m = ended (c .before .before .before) in

@@ -12,8 +12,8 @@ use Rattle.cnot_min.proofs.cnot_min_with.Tie as tie
 abbrev begin : tie.After-check-list → tie.Start
 begin c = c .before .before .before
 
-abbrev told : tie.After-minimize-arg3 → tie.After-enum-told
-told c = c .before .before .before
+abbrev judged : tie.After-minimize-arg3 → tie.After-enum-told
+judged c = c .before .before .before
 
 -- the list is accepted
 sound : (c : tie.After-enum-told) → let a = begin (c .before .before) .args in
@@ -30,7 +30,7 @@ enum-told : tie.Need-enum-told
 enum-told c = search needs
 
 minimize-requires : tie.Need-minimize-requires
-minimize-requires c κs = sound (told c)
+minimize-requires c κs = sound (judged c)
 
 same-length : tie.Need-same-length
 same-length c = search needs
@@ -44,7 +44,7 @@ same-length-3 c = search needs
 returns : tie.Need-returns
 returns c =
     let m = c .before .before .before .before .before in
-    let t = told (m .before) in
+    let t = judged (m .before) in
     let a = begin (t .before .before) .args in
     minimizes (a .list .now) (a .wires) (a .bits) (a .qubit-cap) (a .term-cap) (a .out .now) (a .terms .now) (a .steps .now) (m .minimize .result) _ _ _ (sound t) (m .minimize .ensures)
 
