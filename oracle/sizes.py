@@ -1,3 +1,4 @@
-"""The numbers that the scripts beside this file share: numbers to a gate, and the list program's limits."""
+"""The numbers that the scripts beside this file share: numbers to a gate, a list's limits, and those of the programs' texts."""
 WIDTH = 5
+MOST_WIRES, MOST_BITS = 1024, 1024
 MOST_BYTES, MOST_GATES = 16384, 512

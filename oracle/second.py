@@ -1,0 +1,251 @@
+"""A second reading of the texts, from the documents: a list's text, a laboratory's text (OpenQASM 2.0), and what each program prints for one.
+
+Refusals 3 and 6 to 9 of a list, and what the pass makes of it, come from the oracle (target/oracle/oracle, which oracle/build makes from the
+original's text)."""
+import os
+import re
+import struct
+import subprocess
+
+from sizes import MOST_BITS, MOST_BYTES, MOST_GATES, MOST_WIRES, WIDTH
+
+ORACLE = os.path.join(os.path.dirname(os.path.abspath(__file__)), "..", "target", "oracle", "oracle")
+TOP = 2147483647
+
+
+class Refused(Exception):
+    """With its number and place."""
+
+
+# ---- a list's text
+
+
+def natural(word):
+    """The number from 0 to the largest, or none."""
+    return int(word) if re.fullmatch(rb"0|[1-9][0-9]*", word) and int(word) <= TOP else None
+
+
+def signed(word):
+    """The number of 32 signed bits, or none."""
+    good = re.fullmatch(rb"0|-?[1-9][0-9]*", word) and -TOP - 1 <= int(word) <= TOP
+    return int(word) if good else None
+
+
+class Lines:
+    """The lines of a text, asked for one by one: a line that is missing or has no LF is refused by `number`."""
+
+    def __init__(self, text, number):
+        self.rest, self.at, self.refusal = text, 0, number
+
+    def next(self):
+        self.at += 1
+        line, end, self.rest = self.rest.partition(b"\n")
+        if not end:
+            self.wrong()
+        return line
+
+    def wrong(self):
+        raise Refused(self.refusal, self.at)
+
+    def taken(self, value):
+        if value is None:
+            self.wrong()
+        return value
+
+    def end(self):
+        if self.rest:
+            self.at += 1
+            self.wrong()
+
+
+def few_bytes(text):
+    if len(text) > MOST_BYTES:
+        raise Refused(10, 0)
+
+
+def read_list(text):
+    """Wires, bits, both caps, and the gates' numbers."""
+    few_bytes(text)
+    lines = Lines(text, 11)
+    if lines.next() != b"head 4":
+        lines.wrong()
+    head = [lines.taken(natural(lines.next())) for _ in range(4)]
+    word, space, count = lines.next().partition(b" ")
+    count = lines.taken(natural(count) if word + space == b"gates " else None)
+    if count > MOST_GATES:
+        raise Refused(12, lines.at)
+    numbers = []
+    for _ in range(count):
+        words = lines.next().split(b" ")
+        if len(words) != WIDTH:
+            lines.wrong()
+        numbers += [lines.taken(signed(word)) for word in words]
+    lines.end()
+    return head, numbers
+
+
+def rows(numbers):
+    return [numbers[i : i + WIDTH] for i in range(0, len(numbers), WIDTH)]
+
+
+def list_text(head, numbers):
+    lines = ["head 4", *head, f"gates {len(numbers) // WIDTH}", *(" ".join(map(str, row)) for row in rows(numbers))]
+    return "".join(f"{line}\n" for line in lines).encode()
+
+
+# ---- a laboratory's text
+
+PLAIN = {"x": 1, "t": 2, "tdg": 3, "s": 4, "sdg": 5, "z": 6, "h": 10, "y": 11, "reset": 13}
+PAIRS = {"cx": 8, "cz": 9}
+NAMES = {code: name for name, code in [*PLAIN.items(), *PAIRS.items()]}
+
+
+def index(word, size):
+    n = natural(word)
+    return n if n is not None and n < size else None
+
+
+def statement(line, wires, bits):
+    """The gate of a statement, or none."""
+    m = re.fullmatch(rb"([a-z]+) q\[(-?\d+)\];", line)
+    if m and m[1].decode() in PLAIN:
+        found = [index(m[2], wires)]
+        gate = [PLAIN[m[1].decode()], found[0], 0, 0, 0]
+    elif m := re.fullmatch(rb"rz\((-?\d+)\*pi/4\) q\[(\d+)\];", line):
+        found = [index(m[2], wires), signed(m[1])]
+        gate = [7, found[0], 0, 0, found[1]]
+    elif (m := re.fullmatch(rb"([a-z]+) q\[(\d+)\],q\[(\d+)\];", line)) and m[1].decode() in PAIRS:
+        found = [index(m[2], wires), index(m[3], wires)]
+        gate = [PAIRS[m[1].decode()], *found, 0, 0]
+    elif m := re.fullmatch(rb"ccx q\[(\d+)\],q\[(\d+)\],q\[(\d+)\];", line):
+        found = [index(m[k], wires) for k in (1, 2, 3)]
+        gate = [24, *found, 0]
+    elif m := re.fullmatch(rb"measure q\[(\d+)\] -> c\[(\d+)\];", line):
+        found = [index(m[1], wires), index(m[2], bits)]
+        gate = [27, *found, 0, 0]
+    else:
+        return None
+    on = gate[1 : {8: 3, 9: 3, 24: 4}.get(gate[0], 2)]
+    return None if None in found or len(set(on)) < len(on) else gate
+
+
+def register(text, form):
+    """A register at the front: its size and what is left, or 0 and the text as it was."""
+    line, end, rest = text.partition(b"\n")
+    m = re.fullmatch(form, line)
+    size = natural(m[1]) if m and end else None
+    return (size, rest, 1) if size else (0, text, 0)
+
+
+def read_qasm(text):
+    """Wires, bits, and the gates' numbers."""
+    few_bytes(text)
+    lines = Lines(text, 13)
+    for word in (b"OPENQASM 2.0;", b'include "qelib1.inc";'):
+        if lines.next() != word:
+            lines.wrong()
+    wires, lines.rest, one = register(lines.rest, rb"qreg q\[(\d+)\];")
+    bits, lines.rest, two = register(lines.rest, rb"creg c\[(\d+)\];")
+    lines.at += one + two
+    numbers = []
+    while lines.rest:
+        numbers += lines.taken(statement(lines.next(), wires, bits))
+    if len(numbers) > WIDTH * MOST_GATES:
+        raise Refused(12, 0)
+    if wires > MOST_WIRES or bits > MOST_BITS:
+        raise Refused(3, 0)
+    return wires, bits, numbers
+
+
+def spelled(row):
+    """A gate's statement, or none."""
+    code, a, b, c, turn = row
+    if code in PLAIN.values():
+        return f"{NAMES[code]} q[{a}];"
+    if code in PAIRS.values():
+        return f"{NAMES[code]} q[{a}],q[{b}];"
+    more = {7: f"rz({turn}*pi/4) q[{a}];", 24: f"ccx q[{a}],q[{b}],q[{c}];", 27: f"measure q[{a}] -> c[{b}];"}
+    return more.get(code)
+
+
+def qasm_text(wires, bits, numbers):
+    lines = ["OPENQASM 2.0;", 'include "qelib1.inc";']
+    lines += [f"qreg q[{wires}];"] * (wires > 0) + [f"creg c[{bits}];"] * (bits > 0)
+    for i, row in enumerate(rows(numbers)):
+        line = spelled(row)
+        if line is None:
+            raise Refused(13, i)
+        lines.append(line)
+    return "".join(f"{line}\n" for line in lines).encode()
+
+
+# ---- what each program prints. A program is two steps: what it asks the oracle of a text, and what it makes of the oracle's answer
+
+
+def asked(head, numbers):
+    """A list with exact rooms, as the oracle reads it."""
+    g = len(numbers) // WIDTH
+    return struct.pack("<9Q", *head, len(numbers), len(numbers), 9 * g, 2 * (g + 128), 0) + struct.pack(f"<{len(numbers)}i", *numbers)
+
+
+def answers(cases):
+    """The oracle's answers: a number and a place, or the counts and the new gates."""
+    said = subprocess.run([ORACLE, "answer"], input=b"".join(asked(*c) for c in cases), stdout=subprocess.PIPE, check=True).stdout
+    at, out = 0, []
+    for _ in cases:
+        number, _, place = struct.unpack_from("<3I", said, at)
+        if number:
+            out.append((number, place))
+            at += 12
+            continue
+        counts = struct.unpack_from("<8I", said, at + 8)
+        gates = struct.unpack_from(f"<{WIDTH * counts[1]}i", said, at + 40)
+        out.append((counts, gates))
+        at += 40 + 4 * WIDTH * counts[1]
+    assert at == len(said)
+    return out
+
+
+def listed(head, numbers, counts, gates):
+    lines = ["counts 8", *counts]
+    return list_text(head, gates) + "".join(f"{line}\n" for line in lines).encode()
+
+
+def imported(text):
+    wires, bits, numbers = read_qasm(text)
+    return [wires, bits, 128, 512], numbers
+
+
+PROGRAMS = {
+    "list": (read_list, listed),
+    "import": (imported, lambda head, numbers, counts, gates: list_text(head, numbers)),
+    "export": (read_list, lambda head, numbers, counts, gates: qasm_text(head[0], head[1], numbers)),
+    "qasm": (imported, lambda head, numbers, counts, gates: qasm_text(head[0], head[1], gates)),
+}
+
+
+def refused(number, place):
+    return f"refused {number} {place}\n".encode()
+
+
+def wanted(program, texts):
+    """What the program must print for each text."""
+    read, made = PROGRAMS[program]
+    lists = []
+    for text in texts:
+        try:
+            lists.append(read(text))
+        except Refused as told:
+            lists.append(told)
+    said = iter(answers([each for each in lists if not isinstance(each, Refused)]))
+    out = []
+    for each in lists:
+        if isinstance(each, Refused):
+            out.append(refused(*each.args))
+            continue
+        first, second = next(said)
+        try:
+            out.append(refused(first, second) if isinstance(first, int) else made(*each, first, second))
+        except Refused as told:
+            out.append(refused(*told.args))
+    return out
