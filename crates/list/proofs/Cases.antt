@@ -11,6 +11,7 @@ use Rattle.text.specs.Bytes.{bytes, lf, first}
 use Rattle.text.specs.Reading.{word, ended, naturalLine, countLine}
 use Rattle.spelling.specs.Sizes.{listBytes}
 use Rattle.spelling.specs.Reading.{headAt, row, rows, readText}
+use Rattle.saying.specs.Answer.{exact}
 use Rattle.list.specs.Answer.{answer}
 
 -- a text, and what is printed for it
@@ -83,10 +84,10 @@ cases =
     ∷ []
 
 pub worked : map (λ (c : Case). answer (c .text) .text) cases ≡ map (λ (c : Case). c .prints) cases
-unfolding answer readText headAt row rows word ended naturalLine countLine xor
+unfolding answer exact readText headAt row rows word ended naturalLine countLine xor
 worked = refl
 
 -- what begins with an r is a refusal
 pub refusals : map (λ (c : Case). answer (c .text) .refused) cases ≡ map (λ (c : Case). eqb (first (c .prints)) (code "r")) cases
-unfolding answer readText headAt row rows word ended naturalLine countLine xor
+unfolding answer exact readText headAt row rows word ended naturalLine countLine xor
 refusals = refl

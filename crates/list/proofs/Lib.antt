@@ -1,7 +1,3 @@
 mod Cases
-mod Places
-mod Few
-mod Turns
 mod Keeping
 mod Answering
-pub mod Saying

@@ -2,28 +2,20 @@
 use mathlib.Core.Path.{_≡_}
 use mathlib.Core.Bool.{false}
 use mathlib.Core.List.{List, _++_}
-use Prim.Native.Nat.{ℕ, _*_, _/_, _≤_}
+use Prim.Native.Nat.{ℕ}
 use lib.IntN.{ℤ}
-use lib.ListN.{length, take}
-use Rattle.rules.specs.Limits.{width}
+use lib.ListN.{take}
 use Rattle.rules.specs.Numbers.{gatesOf}
 use Rattle.rules.specs.Plan.{planOf}
 use Rattle.rules.specs.Promise.{Promised}
 use Rattle.rules.specs.Pass as Paper
-use Rattle.rules.specs.Pass.{over, writerOf}
-use Rattle.cnot_min.specs.declared.Counts.{Counts}
+use Rattle.rules.specs.Pass.{writerOf}
 use Rattle.spelling.specs.Sizes.{listGates}
 use Rattle.spelling.specs.Texts.{Head, countsWord, sectionText}
 use Rattle.spelling.specs.Reading.{read, readText}
-use Rattle.list.specs.Answer.{Answer, countNumbers, answer}
-use Rattle.list.specs.declared.Listed.{Listed}
-
--- an answer in the room: the room begins with its bytes, of the length that is returned, and the rest is untouched
-pub record Says (a : Answer) (room : List ℕ) (r : Listed) (room′ : List ℕ) : Type 0 where
-  pub text : room′ ≡ over (a .text) room
-  pub size : r .length ≡ length (a .text)
-  pub fits : r .length ≤ length room
-  pub refused : r .refused ≡ a .refused
+use Rattle.saying.specs.Contracts.{Says}
+use Rattle.saying.specs.declared.Said.{Said}
+use Rattle.list.specs.Answer.{countNumbers, answer}
 
 -- demand 3, of the gates that are printed. The text reads as a head and some gates' numbers; what is printed is a list's text and a section of
 -- counts; that list's text reads as the same head and other gates' numbers; and the gates that are printed stand to those that were read as
@@ -44,22 +36,6 @@ pub record Kept (text printed : List ℕ) : Type 0 where
   pub counted : counts ≡ Paper.counts (gatesOf old) (record { gates = gatesOf new; blocks = counts .blocks; replaced = counts .replaced })
 
 -- every text is answered by document 01's bytes; and where they are no refusal, the list that they show keeps demand 3
-pub record Lists (text room : List ℕ) (r : Listed) (room′ : List ℕ) : Type 0 where
+pub record Lists (text room : List ℕ) (r : Said) (room′ : List ℕ) : Type 0 where
   pub says : Says (answer text) room r room′
   pub kept : r .refused ≡ false → Kept text (take (r .length) room′)
-
--- whole gates, and no more than may be
-pub record Few (numbers : List ℤ) : Type 0 where
-  pub whole : width * (length numbers / width) ≡ length numbers
-  pub few : length numbers / width ≤ listGates
-
--- no count of so few gates is larger
-pub record Small (c : Counts) : Type 0 where
-  pub gatesin : c .gatesin ≤ listGates
-  pub gatesout : c .gatesout ≤ listGates
-  pub twosin : c .twosin ≤ listGates
-  pub twosout : c .twosout ≤ listGates
-  pub tin : c .tin ≤ listGates
-  pub tout : c .tout ≤ listGates
-  pub blocks : c .blocks ≤ listGates
-  pub replaced : c .replaced ≤ listGates

@@ -1,124 +1,83 @@
--- `list::answer` meets its contract: too long, not read, or read and minimized.
-use mathlib.Core.Path.{_≡_, sym, ap, _∙_}
+-- `list::answer` meets its contract: refused, or read and minimized.
+use mathlib.Core.Path.{_≡_, sym, ap, subst}
 use native.Mathlib.Omega.{arith}
 use borrow.Author.Needs.{needs}
+use lib.ListN.{length}
 use lib.Seq.{length-take-le}
-use Rattle.spelling.specs.Sizes.{listGates}
-use Rattle.spelling.specs.Reading.{malformed, many, readText}
-use Rattle.reading.specs.Contracts.{answered}
-use Rattle.list.proofs.Places.{lineOf, text-line}
-use Rattle.list.proofs.Answering.{answer-long, answer-read, GoodRead, good-read}
+use Rattle.saying.specs.Answer.{answerBy}
+use Rattle.saying.specs.Contracts.{Declined, Held, Takes}
+use Rattle.saying.specs.declared.Taken.{Taken}
+use Rattle.list.specs.Answer.{shortened, answer}
 use Rattle.list.proofs.answer.Statement.{statement}
 use Rattle.list.proofs.answer.Tie as tie
 
--- a line that is wrong, by its number; the line of a count that is too large; and a text that was read
-wrong : (c : tie.After-line) → let s = c .before .before .before .before .before .before .before .before in malformed (c .line .given .0 .0) ≡ readText listGates (s .args .text .now)
-wrong c = ap (answered _) (sym (c .line .given .1)) ∙ c .before .before .before .read-text .ensures .answer
+-- a refusal that was printed; and a text that was read
+declined : (c : tie.After-r) → let s = c .before .before .before .before .before .before .before .before .before .before in
+    Declined answerBy (s .args .text .now) (s .args .out .now) (c .r .given .0 .0) (c .before .before .before .before .before .take .last .1 .1 .0)
+declined c =
+    let s = c .before .before .before .before .before .before .before .before .before .before in
+    let t = c .before .before .before .before .before .take in
+    subst (λ (r : Taken). Takes (s .args .text .now) (s .args .out .now) (t .last .1 .0) r (t .last .1 .1 .0)) (c .r .given .1) (t .ensures)
 
-large : (c : tie.After-line2) → let s = c .before .before .before .before .before .before .before .before in many (c .line2 .given .0 .0) ≡ readText listGates (s .args .text .now)
-large c = ap (answered _) (sym (c .line2 .given .1)) ∙ c .before .before .before .read-text .ensures .answer
+held : (c : tie.After-head) → let s = c .before .before .before .before .before .before .before .before .before .before in let t = c .before .before .before .before .before .take in
+    Held (s .args .text .now) (t .last .1 .0) (c .head .given .0 .0) (c .head .given .0 .1 .0) × (t .last .1 .1 .0 ≡ s .args .out .now)
+held c =
+    let s = c .before .before .before .before .before .before .before .before .before .before in
+    let t = c .before .before .before .before .before .take in
+    subst (λ (r : Taken). Takes (s .args .text .now) (s .args .out .now) (t .last .1 .0) r (t .last .1 .1 .0)) (c .head .given .1) (t .ensures)
 
-good : (c : tie.After-head) → let s = c .before .before .before .before .before .before .before .before in GoodRead (s .args .text .now) (c .before .before .before .read-text .last .1 .1 .0) (c .head .given .0 .0) (c .head .given .0 .1 .0)
-good c = let s = c .before .before .before .before .before .before .before .before in good-read (s .args .text .now) _ _ _ _ _ (c .before .before .before .read-text .ensures) (c .head .given .1)
+slice-aggregate-take : tie.Need-slice-aggregate-take
+slice-aggregate-take c = search needs
 
-refuse-requires : tie.Need-refuse-requires
-refuse-requires c κs = search needs
+take-requires : tie.Need-take-requires
+take-requires c κs = search needs
 
-same-length : tie.Need-same-length
-same-length c = search needs
-
-returns : tie.Need-returns
-returns c = let s = c .before .before .before .before .before .before .before in rw (answer-long (s .args .text .now) (c .before .before .before .before .if1 .taken)) (c .before .before .refuse .ensures)
-
-slice-aggregate-read-text : tie.Need-slice-aggregate-read-text
-slice-aggregate-read-text c = search needs
-
-read-text-requires : tie.Need-read-text-requires
-read-text-requires c κs = search needs
-
-enum-known-line : tie.Need-enum-known-line
-enum-known-line c = search needs
-
-cast-refuse : tie.Need-cast-refuse
-cast-refuse c = let s = c .before .before .before .before .before .before .before .before .before .before in record { fits = omega (arith, ap lineOf (wrong (c .before .before)), text-line listGates (s .args .text .now)) }
-
-refuse-requires-2 : tie.Need-refuse-requires-2
-refuse-requires-2 c κs = search needs
-
-enum-known-line-2 : tie.Need-enum-known-line-2
-enum-known-line-2 c = search needs
-
-cast-refuse-2 : tie.Need-cast-refuse-2
-cast-refuse-2 c = let s = c .before .before .before .before .before .before .before .before .before .before in record { fits = omega (arith, ap lineOf (large (c .before .before)), text-line listGates (s .args .text .now)) }
-
-refuse-requires-3 : tie.Need-refuse-requires-3
-refuse-requires-3 c κs = search needs
+enum-known-r : tie.Need-enum-known-r
+enum-known-r c = search needs
 
 enum-known-head : tie.Need-enum-known-head
 enum-known-head c = search needs
 
 mul-numbers : tie.Need-mul-numbers
-mul-numbers c = record { fits = omega (arith, good (c .before) .fits, c .before .before .before .before .read-text .kept .1 .1 .0) }
+mul-numbers c = record { fits = omega (arith, held (c .before) .0 .most) }
 
 array-share-prefix-numbers : tie.Need-array-share-prefix-numbers
-array-share-prefix-numbers c = good (c .before) .fits
+array-share-prefix-numbers c = held (c .before) .0 .fits
 
 slice-aggregate-minimize : tie.Need-slice-aggregate-minimize
-slice-aggregate-minimize c = sym (length-take-le _ _ (good (c .before .before) .fits))
+slice-aggregate-minimize c = sym (length-take-le _ _ (held (c .before .before) .0 .fits))
 
 minimize-requires : tie.Need-minimize-requires
-minimize-requires c κs = (good (c .before .before .before) .few, c .before .before .before .before .before .before .before .before .before .before .before .pre)
+minimize-requires c κs = let h = held (c .before .before .before) in
+    (h .0 .few, omega (arith, ap length (h .1), c .before .before .before .before .before .before .before .before .before .before .before .before .before .pre))
+
+same-length : tie.Need-same-length
+same-length c = search needs
+
+returns : tie.Need-returns
+unfolding answer
+returns c = let d = declined (c .before) in rw (d .is shortened) (d .says)
 
 same-length-2 : tie.Need-same-length-2
 same-length-2 c = search needs
 
 returns-2 : tie.Need-returns-2
-returns-2 c =
-    let line = c .before .before .before .before .before in
-    let s = line .before .before .before .before .before .before .before .before in
-    rw (answer-read (s .args .text .now) _ (omega (arith, line .before .before .before .before .before .if1 .left)) (wrong line)) (c .before .before .refuse2 .ensures)
-
-same-length-3 : tie.Need-same-length-3
-same-length-3 c = search needs
-
-returns-3 : tie.Need-returns-3
-returns-3 c =
-    let line = c .before .before .before .before .before in
-    let s = line .before .before .before .before .before .before .before .before in
-    rw (answer-read (s .args .text .now) _ (omega (arith, line .before .before .before .before .before .if1 .left)) (large line)) (c .before .before .refuse3 .ensures)
-
-same-length-4 : tie.Need-same-length-4
-same-length-4 c = search needs
-
-returns-4 : tie.Need-returns-4
-returns-4 c =
-    let head = c .before .before .before .before .before .before in
-    let s = head .before .before .before .before .before .before .before .before in
-    rw (answer-read (s .args .text .now) _ (omega (arith, head .before .before .before .before .before .if1 .left)) (good head .is)) (c .before .before .minimize .ensures)
+unfolding answer
+returns-2 c = let h = held (c .before .before .before .before .before .before) in rw (h .0 .answer shortened) (rw (h .1) at (c .before .before .minimize .ensures))
 
 pub answer-spec : {M : Type 1} → statement M
 answer-spec =
     tie.close
     (tie.spec
-    refuse-requires
-    same-length
-    returns
-    slice-aggregate-read-text
-    read-text-requires
-    enum-known-line
-    cast-refuse
-    refuse-requires-2
-    enum-known-line-2
-    cast-refuse-2
-    refuse-requires-3
+    slice-aggregate-take
+    take-requires
+    enum-known-r
     enum-known-head
     mul-numbers
     array-share-prefix-numbers
     slice-aggregate-minimize
     minimize-requires
+    same-length
+    returns
     same-length-2
-    returns-2
-    same-length-3
-    returns-3
-    same-length-4
-    returns-4)
+    returns-2)

@@ -3,7 +3,7 @@ use native.Mathlib.Omega.{arith}
 use borrow.Author.Needs.{needs}
 use lib.ListN.{length}
 use Rattle.printing.specs.Contracts.{resultSize}
-use Rattle.list.proofs.Saying.{says-printed}
+use Rattle.saying.proofs.Saying.{says-printed}
 use Rattle.list.proofs.print.Statement.{statement}
 use Rattle.list.proofs.print.Tie as tie
 

@@ -2,7 +2,7 @@
 use mathlib.Core.Path.{sym}
 use lib.Seq.{length-take-le}
 use borrow.Author.Needs.{needs}
-use Rattle.list.proofs.Saying.{says-fits}
+use Rattle.saying.proofs.Saying.{says-fits}
 use Rattle.list_main.proofs.main.Statement.{statement}
 use Rattle.list_main.proofs.main.Tie as tie
 

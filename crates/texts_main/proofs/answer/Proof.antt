@@ -2,7 +2,7 @@
 use mathlib.Core.Path.{sym}
 use native.Mathlib.Omega.{arith}
 use lib.Seq.{length-take-le}
-use Rattle.list.proofs.Saying.{says-fits}
+use Rattle.saying.proofs.Saying.{says-fits}
 use borrow.Author.Needs.{needs}
 use Rattle.texts_main.proofs.answer.Statement.{statement}
 use Rattle.texts_main.proofs.answer.Tie as tie

@@ -1,10 +1,10 @@
--- `list::refuse` meets its contract: what is printed is the refusal.
+-- `saying::refuse` meets its contract: what is printed is the refusal.
 use native.Mathlib.Omega.{arith}
 use borrow.Author.Needs.{needs}
 use Rattle.text.specs.Contracts.{namedSize}
-use Rattle.list.proofs.Saying.{says-printed}
-use Rattle.list.proofs.refuse.Statement.{statement}
-use Rattle.list.proofs.refuse.Tie as tie
+use Rattle.saying.proofs.Saying.{says-printed}
+use Rattle.saying.proofs.refuse.Statement.{statement}
+use Rattle.saying.proofs.refuse.Tie as tie
 
 slice-aggregate-write-refusal : tie.Need-slice-aggregate-write-refusal
 slice-aggregate-write-refusal c = search needs

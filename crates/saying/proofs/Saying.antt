@@ -7,9 +7,9 @@ use native.Mathlib.Nat.{zero-add}
 use native.Mathlib.Omega.{arith}
 use lib.ListN.{length, drop, length-append}
 use Rattle.text.specs.Contracts.{Prints}
-use Rattle.list.specs.Answer.{Answer}
-use Rattle.list.specs.Contracts.{Says}
-use Rattle.list.specs.declared.Listed.{Listed}
+use Rattle.saying.specs.Answer.{Answer}
+use Rattle.saying.specs.Contracts.{Says}
+use Rattle.saying.specs.declared.Said.{Said}
 
 pub says-printed : (refused : Bool) (most : ℕ) (new room room′ : List ℕ) (n : ℕ) → most ≤ length room → Prints most new room 0 room′ n
     → Says (record { refused = refused; text = new }) room (record { length = n; refused = refused }) room′
@@ -20,5 +20,5 @@ says-printed refused most new room room′ n h p = record {
   refused = refl;
 }
 
-pub says-fits : (a : Answer) (room : List ℕ) (r : Listed) (room′ : List ℕ) → Says a room r room′ → r .length ≤ length room′
+pub says-fits : (a : Answer) (room : List ℕ) (r : Said) (room′ : List ℕ) → Says a room r room′ → r .length ≤ length room′
 says-fits a room r room′ s = omega (arith, s .size, ap length (s .text), length-append (a .text) (drop (length (a .text)) room))

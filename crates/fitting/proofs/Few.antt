@@ -15,7 +15,7 @@ use Rattle.rules.proofs.Resynthesis.{promised}
 use Rattle.cnot_min.specs.Minimizing.{counted}
 use Rattle.cnot_min.specs.declared.Counts.{Counts}
 use Rattle.spelling.specs.Sizes.{listGates}
-use Rattle.list.specs.Contracts.{Small}
+use Rattle.fitting.specs.Contracts.{Small}
 
 twos-few : (gs : List Gate) → twos gs ≤ length gs
 unfolding twos

@@ -1,0 +1,119 @@
+-- What holds of each gate of a list, and of each that the pass can write, holds of each that it puts out.
+use mathlib.Core.Path.{_≡_, refl, sym, ap, _∙_, subst}
+use mathlib.Core.List.{List, [], _∷_, _++_, map}
+use mathlib.Core.Option.{Option, none, some, Option·none-ne-some, Option·some-injective}
+use Prim.Native.Nat.{ℕ, zero, suc, _%_, _≤_}
+use native.Mathlib.Omega.{arith}
+use lib.IntN.{pos}
+use lib.ListN.{length, getD}
+use Rattle.rules.specs.Gate.{Gate, codeCz}
+use Rattle.rules.specs.Fold.{Row, Block}
+use Rattle.rules.specs.Walk.{Step, cn, rot, phaseWalk, held}
+use Rattle.rules.specs.Close.{units, closing}
+use Rattle.rules.specs.Synth.{rotation, emit, flipsOf, withSteps, synth, blockOf, orElse, resynthesis}
+use Rattle.rules.specs.Plan.{Plan, planOf}
+use Rattle.rules.specs.Scan.{Piece, textOf}
+use Rattle.rules.specs.Promise.{Changes, end, copy, keep, replace}
+use Rattle.rules.specs.Pass.{writerOf, pass}
+use Rattle.rules.proofs.Bits.{split}
+use Rattle.rules.proofs.Resynthesis.{promised}
+
+unfoldable pub Each : (Gate → Type 0) → List Gate → Type 0
+Each P [] = Unit {0}
+Each P (g ∷ gs) = P g × Each P gs
+
+-- a gate of the fragment with no turn
+pub record Plain (g : Gate) : Type 0 where
+  pub least : 1 ≤ g .code
+  pub most : g .code ≤ codeCz
+  pub turnless : g .turn ≡ pos 0
+
+module _ (P : Gate → Type 0) (plain : (g : Gate) → Plain g → P g) where
+  each-append : (us vs : List Gate) → Each P us → Each P vs → Each P (us ++ vs)
+  unfolding Each
+  each-append [] vs h k = k
+  each-append (u ∷ us) vs h k = (h .0, each-append us vs (h .1) k)
+
+  each-parts : (us vs : List Gate) → Each P (us ++ vs) → Each P us × Each P vs
+  unfolding Each
+  each-parts [] vs h = (tt, h)
+  each-parts (u ∷ us) vs h = let r = each-parts us vs (h .1) in ((h .0, r .0), r .1)
+
+  -- ---- what is emitted
+
+  each-rotation : (k q : ℕ) → Each P (rotation k q)
+  unfolding Each rotation
+  each-rotation zero q = tt
+  each-rotation (suc zero) q = (plain _ (record { least = omega arith; most = omega arith; turnless = refl }), tt)
+  each-rotation (suc (suc zero)) q = (plain _ (record { least = omega arith; most = omega arith; turnless = refl }), tt)
+  each-rotation (suc (suc (suc zero))) q = (
+    plain _ (record { least = omega arith; most = omega arith; turnless = refl }),
+    (plain _ (record { least = omega arith; most = omega arith; turnless = refl }), tt),
+  )
+  each-rotation (suc (suc (suc (suc zero)))) q = (plain _ (record { least = omega arith; most = omega arith; turnless = refl }), tt)
+  each-rotation (suc (suc (suc (suc (suc zero))))) q = (
+    plain _ (record { least = omega arith; most = omega arith; turnless = refl }),
+    (plain _ (record { least = omega arith; most = omega arith; turnless = refl }), tt),
+  )
+  each-rotation (suc (suc (suc (suc (suc (suc zero)))))) q = (plain _ (record { least = omega arith; most = omega arith; turnless = refl }), tt)
+  each-rotation (suc (suc (suc (suc (suc (suc (suc zero))))))) q = (plain _ (record { least = omega arith; most = omega arith; turnless = refl }), tt)
+  each-rotation (suc (suc (suc (suc (suc (suc (suc (suc k)))))))) q = tt
+
+  each-emit : (ws : List ℕ) (ss : List Step) → Each P (emit ws ss)
+  unfolding Each emit
+  each-emit ws [] = tt
+  each-emit ws (cn p t ∷ ss) = (plain _ (record { least = omega arith; most = omega arith; turnless = refl }), each-emit ws ss)
+  each-emit ws (rot q k ∷ ss) = each-append (rotation (k % 8) (getD ws q zero)) (emit ws ss) (each-rotation (k % 8) (getD ws q zero)) (each-emit ws ss)
+
+  each-flips : (rs : List Row) → Each P (flipsOf rs)
+  unfolding Each flipsOf
+  each-flips [] = tt
+  each-flips (r ∷ rs) =
+      split (r .flips) (λ e. rw e (plain _ (record { least = omega arith; most = omega arith; turnless = refl }), each-flips rs)) (λ e. rw e (each-flips rs))
+
+  each-synth : (b : Block) (gs : List Gate) → synth b ≡ some gs → Each P gs
+  unfolding synth
+  each-synth b gs e = go (closing (held w (units n zero)) (map (λ r. r .parity) (b .rows))) e
+    where
+      n : ℕ
+      n = length (b .rows)
+
+      ws : List ℕ
+      ws = map (λ r. r .wire) (b .rows)
+
+      w : List Step
+      w = phaseWalk n (b .terms)
+
+      go : (o : Option (List Step)) → withSteps o (λ c. emit ws (w ++ c) ++ flipsOf (b .rows)) ≡ some gs → Each P gs
+      go none f = absurd (Option·none-ne-some gs f)
+      go (some c) f =
+          subst (Each P) (Option·some-injective (emit ws (w ++ c) ++ flipsOf (b .rows)) gs f)
+          (each-append (emit ws (w ++ c)) (flipsOf (b .rows)) (each-emit ws (w ++ c)) (each-flips (b .rows)))
+
+  each-resynthesis : (gs : List Gate) → Each P gs → Each P (resynthesis gs)
+  unfolding resynthesis
+  each-resynthesis gs s = go (synth (blockOf gs)) refl
+    where
+      go : (o : Option (List Gate)) → synth (blockOf gs) ≡ o → Each P (orElse o gs)
+      go none e = s
+      go (some new) e = each-synth (blockOf gs) new e
+
+  -- ---- the pass
+
+  each-plan : (p : Plan) (gs : List Gate) → Each P gs → Each P (writerOf p gs)
+  unfolding writerOf
+  each-plan p gs s = each-resynthesis gs s
+
+  each-changes : (p : Plan) {ps : List Piece} {out : List Gate} {m n : ℕ} → Changes (writerOf p) ps out m n → Each P (textOf ps) → Each P out
+  unfolding textOf Each
+  each-changes p end s = tt
+  each-changes p (copy g c) s = (s .0, each-changes p c (s .1))
+  each-changes p (keep {ps = ps} {out = out} gs e c) s = let r = each-parts gs (textOf ps) s in each-append gs out (r .0) (each-changes p c (r .1))
+  each-changes p (replace {ps = ps} {out = out} gs e c) s =
+      let r = each-parts gs (textOf ps) s in
+      each-append (writerOf p gs) out (each-plan p gs (r .0)) (each-changes p c (r .1))
+
+  pub each-pass : (q t : ℕ) (gs : List Gate) → Each P gs → Each P (pass q t gs .gates)
+  each-pass q t gs s =
+      let e = promised q t gs .exactly in
+      each-changes (planOf q t) (e .changes) (subst (Each P) (sym (e .whole)) s)

@@ -1,0 +1,4 @@
+mod Few
+mod Fitting
+pub mod Each
+pub mod Made

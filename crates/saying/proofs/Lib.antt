@@ -1,0 +1,3 @@
+mod Places
+mod Taking
+pub mod Saying
