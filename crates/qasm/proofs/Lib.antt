@@ -1,1 +1,4 @@
 mod Cases
+pub mod Templates
+pub mod Codes
+pub mod Statements
