@@ -138,7 +138,7 @@ uses-code c h = uses-of c (template c) (okay-code c (spelled-most c h)) h
 abbrev distinct : List ℕ → List ℕ → Bool
 distinct t u = not (written t) || (not (written u) || apart t u)
 
-against : List ℕ → List (List ℕ) → Bool
+unfoldable pub against : List ℕ → List (List ℕ) → Bool
 against t [] = true
 against t (u ∷ us) = distinct t u && against t us
 
@@ -166,3 +166,8 @@ pair-at (suc i) (suc j) (t ∷ ts) h g k = pair-at i j ts (and-right (against t 
 pub apart-codes : (c d : ℕ) → c < d → spelled c ≡ true → spelled d ≡ true → apart (template c) (template d) ≡ true
 unfolding spelled template
 apart-codes c d h p q = rw (p, q) at (pair-at c d templates paired h (omega (arith, sized, spelled-most d q)))
+
+-- another template, tried against each
+pub apart-first : (t : List ℕ) → against t templates ≡ true → written t ≡ true → (c : ℕ) → spelled c ≡ true → apart t (template c) ≡ true
+unfolding spelled template
+apart-first t h w c q = rw (w, q) at (against-at t c templates h (omega (arith, sized, spelled-most c q)))

@@ -83,18 +83,18 @@ row-read (suc k) bs u left h = go (ended (ends k) bs) refl (λ rest. row-read k 
 pub apart : {A : Type 0} {P : Type 0} (i : ℕ) (v : A) (k : ℕ) (left : List ℕ) → bad i ≡ good v k left → P
 apart i v k left h = let z : _≡_ {A = ℕ} 0 1 = cc in absurd (omega arith)
 
-ranged-append : (vs ws : List ℤ) → Ranged vs → Ranged ws → Ranged (vs ++ ws)
+pub ranged-append : (vs ws : List ℤ) → Ranged vs → Ranged ws → Ranged (vs ++ ws)
 unfolding Ranged
 ranged-append [] ws h g = g
 ranged-append (v ∷ vs) ws h g = (h .0, ranged-append vs ws (h .1) g)
 
-ranged-take : (k : ℕ) (vs : List ℤ) → Ranged vs → Ranged (take k vs)
+pub ranged-take : (k : ℕ) (vs : List ℤ) → Ranged vs → Ranged (take k vs)
 unfolding Ranged
 ranged-take zero vs h = tt
 ranged-take (suc k) [] h = tt
 ranged-take (suc k) (v ∷ vs) h = (h .0, ranged-take k vs (h .1))
 
-ranged-drop : (k : ℕ) (vs : List ℤ) → Ranged vs → Ranged (drop k vs)
+pub ranged-drop : (k : ℕ) (vs : List ℤ) → Ranged vs → Ranged (drop k vs)
 unfolding Ranged
 ranged-drop zero vs h = h
 ranged-drop (suc k) [] h = tt
@@ -143,7 +143,7 @@ rows-read (suc n) k bs u i left h = go (row width bs .behind) refl (λ rest. row
 
 -- ---- the head
 
-line-goes : {A B : Type 0} (k : ℕ) (o : Found A) (next : A → ℕ → List ℕ → Lines B) (v : B) (i : ℕ) (left : List ℕ) → line k o next ≡ good v i left
+pub line-goes : {A B : Type 0} (k : ℕ) (o : Found A) (next : A → ℕ → List ℕ → Lines B) (v : B) (i : ℕ) (left : List ℕ) → line k o next ≡ good v i left
     → (a : A) × ((rest : List ℕ) × ((o ≡ found a rest) × (next a (suc k) rest ≡ good v i left)))
 line-goes k none next v i left h = apart k v i left h
 line-goes k (found a rest) next v i left h = (a, (rest, (refl, h)))

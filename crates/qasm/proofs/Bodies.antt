@@ -1,0 +1,92 @@
+-- The gates' lines, both ways.
+use mathlib.Core.Path.{_≡_, refl, sym, ap, _∙_, subst}
+use mathlib.Core.Bool.{true, false, cond}
+use mathlib.Core.List.{List, [], _∷_, _++_, append-nil}
+use Prim.Native.Nat.{ℕ, zero, suc, _+_, _*_, _/_, _≤_, _<_}
+use native.Mathlib.Nat.{add-zero}
+use native.Mathlib.Omega.{arith}
+use lib.IntN.{ℤ, pos}
+use lib.ListN.{length, take, drop, length-append, length-take, length-drop, take-append-drop}
+use lib.Seq.{take-at, drop-at}
+use Rattle.rules.specs.Limits.{width}
+use Rattle.text.specs.Reading.{Found, none, found, onward}
+use Rattle.spelling.specs.Lines.{Lines, bad, good}
+use Rattle.spelling.specs.Reading.{Rows}
+use Rattle.spelling.proofs.Spelling.{apart, Ranged, ranged-append}
+use Rattle.qasm.specs.Statement.{statementText, statement}
+use Rattle.qasm.specs.Import.{atEnd, body}
+use Rattle.qasm.specs.Export.{statementsText}
+use Rattle.qasm.proofs.Statements.{Gated, read-statement, statement-read, statement-some}
+use Rattle.qasm.proofs.Gates.{Each, each-cons}
+
+-- ---- the end of the text, or not yet
+
+pub before-end : {A : Type 0} (bs : List ℕ) (done more : A) → 1 ≤ length bs → atEnd bs done more ≡ more
+before-end [] done more h = absurd (omega arith)
+before-end (b ∷ bs) done more h = refl
+
+-- ---- what was spelled is read back
+
+-- as many bytes as gates
+pub statements-some : (w b g : ℕ) (ns : List ℤ) → Each w b g ns → g ≤ length (statementsText g ns)
+unfolding statementsText Each
+statements-some w b zero ns e = omega arith
+statements-some w b (suc g) ns e =
+    omega (arith, length-append (statementText (take width ns)) (statementsText g (drop width ns)), statement-some w b (take width ns) (e .0), statements-some w b g (drop width ns) (e .1))
+
+body-end : (n w b k : ℕ) → body n w b k [] ≡ record { numbers = []; behind = good tt k [] }
+unfolding body
+body-end zero w b k = refl
+body-end (suc n) w b k = refl
+
+pub read-body : (n w b k g : ℕ) (ns : List ℤ) → g ≤ n → length ns ≡ width * g → Each w b g ns → body n w b k (statementsText g ns) ≡ record { numbers = ns; behind = good tt (k + g) [] }
+unfolding body statementsText Each
+read-body n w b k zero [] h l e = body-end n w b k ∙ rw (add-zero k)
+read-body n w b k zero (v ∷ ns) h l e = absurd (omega arith)
+read-body zero w b k (suc g) ns h l e = absurd (omega arith)
+read-body (suc n) w b k (suc g) ns h l e =
+    let row : List ℤ = take width ns in
+    let rest : List ℕ = statementsText g (drop width ns) in
+    let some : 1 ≤ length (statementText row ++ rest) = omega (arith, length-append (statementText row) rest, statement-some w b row (e .0)) in
+    let others = read-body n w b (suc k) g (drop width ns) (omega arith) (length-drop width ns ∙ omega arith) (e .1) in
+    let j : suc k + g ≡ k + suc g = omega arith in
+    before-end {A = Rows} (statementText row ++ rest) _ _ some ∙ rw (read-statement w b row rest (e .0), others, take-append-drop width ns, j)
+
+-- ---- what is read was spelled so
+
+pub record BodyRead (w b : ℕ) (bs : List ℕ) (r : Rows) : Type 0 where
+  pub count : ℕ
+  pub text : bs ≡ statementsText count (r .numbers)
+  pub size : length (r .numbers) ≡ width * count
+  pub ranged : Ranged (r .numbers)
+  pub each : Each w b count (r .numbers)
+
+none-read : (w b k : ℕ) → BodyRead w b [] (record { numbers = []; behind = good tt k [] })
+unfolding statementsText Each Ranged
+none-read w b k = record { count = 0; text = refl; size = refl; ranged = tt; each = tt }
+
+more-read : (w b : ℕ) (bs rest : List ℕ) (row : List ℤ) (r : Rows) → statement w b bs ≡ found row rest → BodyRead w b rest r
+    → BodyRead w b bs (record { numbers = row ++ r .numbers; behind = r .behind })
+unfolding statementsText
+more-read w b bs rest row r e o =
+    let s = statement-read w b bs row rest e in
+    record {
+      count = suc (o .count);
+      text = s .0 ∙ rw (take-at row (r .numbers) width (s .1 .size), drop-at row (r .numbers) width (s .1 .size)) (ap (λ (l : List ℕ). statementText row ++ l) (o .text));
+      size = simp length-append (omega (arith, s .1 .size, o .size));
+      ranged = ranged-append row (r .numbers) (s .1 .each) (o .ranged);
+      each = each-cons w b (o .count) row (r .numbers) (s .1) (o .each);
+    }
+
+pub body-read : (n w b k : ℕ) (bs : List ℕ) (u : Unit) (i : ℕ) (left : List ℕ) → body n w b k bs .behind ≡ good u i left → BodyRead w b bs (body n w b k bs)
+unfolding body
+body-read zero w b k [] u i left h = none-read w b k
+body-read zero w b k (c ∷ bs) u i left h = apart k u i left h
+body-read (suc n) w b k [] u i left h = none-read w b k
+body-read (suc n) w b k (c ∷ bs) u i left h = go (statement w b (c ∷ bs)) refl (λ rest. body-read n w b (suc k) rest u i left) h
+  where
+    go : (o : Found (List ℤ)) → statement w b (c ∷ bs) ≡ o → ((rest : List ℕ) → body n w b (suc k) rest .behind ≡ good u i left → BodyRead w b rest (body n w b (suc k) rest))
+        → (let r = onward {B = Rows} o (record { numbers = []; behind = bad k }) (λ row rest. record { numbers = row ++ body n w b (suc k) rest .numbers; behind = body n w b (suc k) rest .behind }) in
+        r .behind ≡ good u i left → BodyRead w b (c ∷ bs) r)
+    go none e f h = apart k u i left h
+    go (found row rest) e f h = more-read w b (c ∷ bs) rest row (body n w b (suc k) rest) e (f rest h)
