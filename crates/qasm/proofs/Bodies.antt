@@ -34,7 +34,7 @@ statements-some w b zero ns e = omega arith
 statements-some w b (suc g) ns e =
     omega (arith, length-append (statementText (take width ns)) (statementsText g (drop width ns)), statement-some w b (take width ns) (e .0), statements-some w b g (drop width ns) (e .1))
 
-body-end : (n w b k : ℕ) → body n w b k [] ≡ record { numbers = []; behind = good tt k [] }
+pub body-end : (n w b k : ℕ) → body n w b k [] ≡ record { numbers = []; behind = good tt k [] }
 unfolding body
 body-end zero w b k = refl
 body-end (suc n) w b k = refl
@@ -90,3 +90,22 @@ body-read (suc n) w b k (c ∷ bs) u i left h = go (statement w b (c ∷ bs)) re
         r .behind ≡ good u i left → BodyRead w b (c ∷ bs) r)
     go none e f h = apart k u i left h
     go (found row rest) e f h = more-read w b (c ∷ bs) rest row (body n w b (suc k) rest) e (f rest h)
+
+-- ---- line by line, as the code goes
+
+module _ (f w b k : ℕ) (bs : List ℕ) (h : 1 ≤ length bs) where
+  pub body-stop : statement w b bs ≡ none → body (suc f) w b k bs ≡ record { numbers = []; behind = bad k }
+  unfolding body
+  body-stop e = before-end {A = Rows} bs _ _ h ∙ rw e
+
+  pub body-once : (row : List ℤ) (left : List ℕ) → statement w b bs ≡ found row left
+      → body (suc f) w b k bs ≡ record { numbers = row ++ body f w b (suc k) left .numbers; behind = body f w b (suc k) left .behind }
+  unfolding body
+  body-once row left e = before-end {A = Rows} bs _ _ h ∙ rw e
+
+-- a statement that is read leaves less of the text
+pub statement-further : (text : List ℕ) (w b at next : ℕ) (row : List ℤ) → next ≤ length text → statement w b (drop at text) ≡ found row (drop next text) → at < next
+statement-further text w b at next row h e =
+    let s = statement-read w b (drop at text) row (drop next text) e in
+    let l : length (drop at text) ≡ length (statementText row) + length (drop next text) = ap length (s .0) ∙ length-append (statementText row) (drop next text) in
+    omega (arith, l, length-drop at text, length-drop next text, statement-some w b row (s .1))

@@ -1,5 +1,6 @@
 -- Laboratories' texts and what import says of them, by computing.
 use mathlib.Core.Path.{_≡_, refl}
+use mathlib.Core.Bool.{true, false}
 use mathlib.Core.List.{List, [], _∷_, _++_, map}
 use Prim.Native.Nat.{ℕ}
 use Prim.Native.String.{String}
@@ -8,7 +9,7 @@ use Rattle.rules.specs.Refusal.{faultAt}
 use Rattle.text.specs.Bytes.{bytes}
 use Rattle.text.specs.Printing.{printed}
 use Rattle.text.specs.Reading.{word, integer}
-use Rattle.qasm.specs.Table.{spelled, fieldOf}
+use Rattle.qasm.specs.Table.{template, spelled, fieldOf}
 use Rattle.qasm.specs.Import.{Import, wrong, many, large, list, versionLine, includeLine, readQasm}
 use Rattle.qasm.specs.Export.{qasmText, unspelled}
 
@@ -36,3 +37,52 @@ registers : map behind (
     ∷ large ∷ large ∷ wrong 3 ∷ large ∷ wrong 3 ∷ wrong 3 ∷ []
 unfolding readQasm word integer faultAt fieldOf spelled
 registers = refl
+
+-- a last line without LF, blank lines, comments; angles and numbers; blanks; whole registers; other names; a wire twice
+statements : map behind (
+    "qreg q[1];\nx q[0];" ∷ "\n" ∷ "// by hand\n" ∷ "qreg q[1];\nx q[0];\n\n"
+    ∷ "qreg q[1];\nrz(pi/4) q[0];\n" ∷ "qreg q[1];\nrz(-0*pi/4) q[0];\n" ∷ "qreg q[1];\nrz(2147483648*pi/4) q[0];\n" ∷ "qreg q[1];\nx q[00];\n"
+    ∷ "qreg q[2];\ncx q[0], q[1];\n" ∷ "qreg q[1];\ncreg c[1];\nmeasure q[0]->c[0];\n" ∷ "qreg q[1];\ncreg c[1];\nmeasure q -> c;\n" ∷ "qreg q[1];\nx q;\n"
+    ∷ "qreg q[2];\nswap q[0],q[1];\n" ∷ "qreg q[3];\nccx q[0],q[1],q[0];\n" ∷ "qreg q[1];\nmeasure q[0] -> c[0];\n" ∷ "qreg q[1];\nx q[1];\n" ∷ "qreg q[1];\nx q[-1];\n" ∷ [])
+    ≡ wrong 4 ∷ wrong 3 ∷ wrong 3 ∷ wrong 5
+    ∷ wrong 4 ∷ wrong 4 ∷ wrong 4 ∷ wrong 4
+    ∷ wrong 4 ∷ wrong 5 ∷ wrong 5 ∷ wrong 4
+    ∷ wrong 4 ∷ wrong 4 ∷ wrong 4 ∷ wrong 4 ∷ wrong 4 ∷ []
+unfolding readQasm word integer faultAt fieldOf spelled
+statements = refl
+
+-- a turn is kept as it stands, at both ends too; a bit and a wire of the same number; a third gate is one too many, and a wrong line wins over it
+gates : map behind (
+    "qreg q[1];\nrz(1*pi/4) q[0];\nrz(-9*pi/4) q[0];\n" ∷ "qreg q[1];\nrz(-2147483648*pi/4) q[0];\n" ∷ "qreg q[1];\ncreg c[1];\nmeasure q[0] -> c[0];\nreset q[0];\n"
+    ∷ "qreg q[3];\nccx q[2],q[0],q[1];\ncz q[1],q[0];\n" ∷ "qreg q[1];\nx q[0];\nx q[0];\nx q[0];\n" ∷ "qreg q[1];\nx q[0];\nx q[0];\nx q[0];\ny\n" ∷ "qreg q[1025];\nx q[0];\nx q[0];\nx q[0];\n" ∷ [])
+    ≡ list 1 0 (pos 7 ∷ pos 0 ∷ pos 0 ∷ pos 0 ∷ pos 1 ∷ pos 7 ∷ pos 0 ∷ pos 0 ∷ pos 0 ∷ negsuc 8 ∷ [])
+    ∷ list 1 0 (pos 7 ∷ pos 0 ∷ pos 0 ∷ pos 0 ∷ negsuc 2147483647 ∷ [])
+    ∷ list 1 1 (pos 27 ∷ pos 0 ∷ pos 0 ∷ pos 0 ∷ pos 0 ∷ pos 13 ∷ pos 0 ∷ pos 0 ∷ pos 0 ∷ pos 0 ∷ [])
+    ∷ list 3 0 (pos 24 ∷ pos 2 ∷ pos 0 ∷ pos 1 ∷ pos 0 ∷ pos 9 ∷ pos 1 ∷ pos 0 ∷ pos 0 ∷ pos 0 ∷ [])
+    ∷ many ∷ wrong 7 ∷ many ∷ []
+unfolding readQasm word integer faultAt fieldOf spelled
+gates = refl
+
+-- every spelling, and the codes that have none
+spelt : qasmText 3 1 (
+    pos 1 ∷ pos 0 ∷ pos 0 ∷ pos 0 ∷ pos 0 ∷ pos 2 ∷ pos 0 ∷ pos 0 ∷ pos 0 ∷ pos 0 ∷ pos 3 ∷ pos 0 ∷ pos 0 ∷ pos 0 ∷ pos 0 ∷ pos 4 ∷ pos 0 ∷ pos 0 ∷ pos 0 ∷ pos 0
+    ∷ pos 5 ∷ pos 0 ∷ pos 0 ∷ pos 0 ∷ pos 0 ∷ pos 6 ∷ pos 0 ∷ pos 0 ∷ pos 0 ∷ pos 0 ∷ pos 7 ∷ pos 0 ∷ pos 0 ∷ pos 0 ∷ negsuc 2 ∷ pos 8 ∷ pos 0 ∷ pos 1 ∷ pos 0 ∷ pos 0
+    ∷ pos 9 ∷ pos 0 ∷ pos 1 ∷ pos 0 ∷ pos 0 ∷ pos 10 ∷ pos 0 ∷ pos 0 ∷ pos 0 ∷ pos 0 ∷ pos 11 ∷ pos 0 ∷ pos 0 ∷ pos 0 ∷ pos 0 ∷ pos 13 ∷ pos 0 ∷ pos 0 ∷ pos 0 ∷ pos 0
+    ∷ pos 24 ∷ pos 0 ∷ pos 1 ∷ pos 2 ∷ pos 0 ∷ pos 27 ∷ pos 2 ∷ pos 0 ∷ pos 0 ∷ pos 0 ∷ [])
+    ≡ versionLine ++ (includeLine ++ bytes "qreg q[3];\ncreg c[1];\nx q[0];\nt q[0];\ntdg q[0];\ns q[0];\nsdg q[0];\nz q[0];\nrz(-3*pi/4) q[0];\ncx q[0],q[1];\ncz q[0],q[1];\nh q[0];\ny q[0];\nreset q[0];\nccx q[0],q[1],q[2];\nmeasure q[2] -> c[0];\n")
+unfolding qasmText printed fieldOf template
+spelt = refl
+
+known : map spelled (0 ∷ 1 ∷ 2 ∷ 3 ∷ 4 ∷ 5 ∷ 6 ∷ 7 ∷ 8 ∷ 9 ∷ 10 ∷ 11 ∷ 12 ∷ 13 ∷ 14 ∷ 15 ∷ 16 ∷ 17 ∷ 18 ∷ 19 ∷ 20 ∷ 21 ∷ 22 ∷ 23 ∷ 24 ∷ 25 ∷ 26 ∷ 27 ∷ 28 ∷ [])
+    ≡ false ∷ true ∷ true ∷ true ∷ true ∷ true ∷ true ∷ true ∷ true ∷ true ∷ true ∷ true ∷ false ∷ true ∷ false ∷ false ∷ false ∷ false ∷ false ∷ false ∷ false ∷ false ∷ false ∷ false ∷ true ∷ false ∷ false ∷ true ∷ false ∷ []
+unfolding spelled
+known = refl
+
+-- no registers, one of the two; and the first gate that isn't spelled
+bare-texts : qasmText 0 0 [] ∷ qasmText 0 2 [] ∷ [] ≡ (versionLine ++ includeLine) ∷ (versionLine ++ (includeLine ++ bytes "creg c[2];\n")) ∷ []
+unfolding qasmText printed fieldOf
+bare-texts = refl
+
+others : unspelled (pos 1 ∷ pos 0 ∷ pos 0 ∷ pos 0 ∷ pos 0 ∷ pos 17 ∷ pos 0 ∷ pos 1 ∷ pos 0 ∷ pos 0 ∷ []) ∷ unspelled (pos 1 ∷ pos 0 ∷ pos 0 ∷ pos 0 ∷ pos 0 ∷ []) ∷ [] ≡ 1 ∷ 1 ∷ []
+unfolding unspelled spelled
+others = refl

@@ -13,7 +13,8 @@ use Rattle.rules.specs.Limits.{lastCode}
 use Rattle.rules.specs.Gate.{second, bitted, third, turned}
 use Rattle.rules.proofs.Bits.{split, and-left, and-right}
 use Rattle.qasm.specs.Table.{linesOf, templates, template, written, spelled, fieldOf}
-use Rattle.qasm.specs.Contracts.{templateSize, statementSize}
+use Rattle.qasm.specs.Import.{wiresLine, bitsLine}
+use Rattle.qasm.specs.Contracts.{templateSize, statementSize, registerSize}
 use Rattle.qasm.proofs.Templates.{names, plain, sound, apart}
 
 -- ---- one test for each spelling
@@ -63,7 +64,7 @@ sized : length templates ≡ suc lastCode
 unfolding templates
 sized = refl
 
-beyond : (c : ℕ) → lastCode < c → template c ≡ []
+pub beyond : (c : ℕ) → lastCode < c → template c ≡ []
 unfolding template
 beyond c h =
     let far : length templates ≤ c = omega (arith, sized) in
@@ -171,3 +172,13 @@ apart-codes c d h p q = rw (p, q) at (pair-at c d templates paired h (omega (ari
 pub apart-first : (t : List ℕ) → against t templates ≡ true → written t ≡ true → (c : ℕ) → spelled c ≡ true → apart t (template c) ≡ true
 unfolding spelled template
 apart-first t h w c q = rw (w, q) at (against-at t c templates h (omega (arith, sized, spelled-most c q)))
+
+-- ---- the registers' templates are as long
+
+pub wires-size : templateSize wiresLine ≡ registerSize
+unfolding templateSize fieldOf
+wires-size = refl
+
+pub bits-size : templateSize bitsLine ≡ registerSize
+unfolding templateSize fieldOf
+bits-size = refl

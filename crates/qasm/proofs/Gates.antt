@@ -2,8 +2,9 @@
 use mathlib.Core.Path.{_≡_, refl, sym, ap, _∙_, subst}
 use mathlib.Core.Bool.{true, false, cond}
 use mathlib.Core.List.{List, [], _∷_, _++_}
-use Prim.Native.Nat.{ℕ, zero, suc, _+_, _*_, _/_, _≤_, _<_}
-use native.Mathlib.Nat.{add-zero, zero-add}
+use Prim.Native.Nat.{ℕ, zero, suc, _+_, _-_, _*_, _/_, _≤_, _<_}
+use native.Mathlib.Nat.{add-zero}
+use native.Mathlib.Numerals.{add-one}
 use native.Mathlib.Omega.{arith}
 use lib.IntN.{ℤ, pos}
 use lib.ListN.{length, getD, take, drop, length-drop}
@@ -14,7 +15,8 @@ use Rattle.rules.specs.Refusal.{faultAt}
 use Rattle.rules.proofs.Bits.{split, same}
 use Rattle.spelling.proofs.Spelling.{Ranged, ranged-take, ranged-drop}
 use Rattle.qasm.specs.Table.{spelled}
-use Rattle.qasm.specs.Export.{unspelledFrom, unspelled}
+use Rattle.qasm.specs.Statement.{statementText}
+use Rattle.qasm.specs.Export.{statementsText, unspelledFrom, unspelled}
 use Rattle.qasm.proofs.Statements.{codeOf, Gated}
 
 -- ---- by rows
@@ -81,3 +83,37 @@ spelled-all l (suc n) i e j h g =
     (λ q t. subst (λ (m : ℕ). spelled (natOf (field l m 0)) ≡ true) q s)
     (λ q t. spelled-all l n (suc i) more j (omega (arith, q)) (omega arith)))
     (λ s. let no : i ≡ i + suc n = rw s at e in absurd (omega arith))
+
+-- ---- from a place on
+
+module _ (l : List ℤ) (n i : ℕ) where
+  pub unspelled-stop : i < n → spelled (natOf (field l i 0)) ≡ false → unspelledFrom l (n - i) i ≡ i
+  unfolding unspelledFrom
+  unspelled-stop h e =
+      let k : n - i ≡ suc (n - (i + 1)) = omega arith in
+      rw (k, e)
+
+  pub unspelled-more : i < n → spelled (natOf (field l i 0)) ≡ true → unspelledFrom l (n - i) i ≡ unspelledFrom l (n - (i + 1)) (i + 1)
+  unfolding unspelledFrom
+  unspelled-more h e =
+      let k : n - i ≡ suc (n - (i + 1)) = omega arith in
+      rw (k, e, add-one i)
+
+  pub unspelled-end : i ≤ n → n ≤ i → unspelledFrom l (n - i) i ≡ n
+  unfolding unspelledFrom
+  unspelled-end h g =
+      let k : n - i ≡ 0 = omega arith in
+      rw k (omega arith)
+
+pub statements-more : (n : ℕ) (ns : List ℤ) (i : ℕ) → i < n → statementsText (n - i) (drop (width * i) ns) ≡ statementText (rowAt ns i) ++ statementsText (n - (i + 1)) (drop (width * (i + 1)) ns)
+unfolding statementsText
+statements-more n ns i h =
+    let s : n - i ≡ suc (n - (i + 1)) = omega arith in
+    let j : width * i + width ≡ width * (i + 1) = omega arith in
+    rw (s, drop-drop width (width * i) ns, j)
+
+pub statements-none : (n : ℕ) (ns : List ℤ) (i : ℕ) → n ≤ i → statementsText (n - i) (drop (width * i) ns) ≡ []
+unfolding statementsText
+statements-none n ns i h =
+    let s : n - i ≡ 0 = omega arith in
+    rw s

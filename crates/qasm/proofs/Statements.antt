@@ -172,9 +172,10 @@ statement-read w b bs row left h =
     let a = as-read (d .0) bs (o .0) (o .1 .0) (d .1) in
     let r = by-read (template (d .0)) bs (bare (d .0)) (o .0) (o .1 .0) (fine (d .0) .is-sound) refl (a .1) in
     let code : codeOf (o .0) ≡ d .0 = ap natOf (r .kept 0 (no-code (template (d .0)))) in
-    let text : bs ≡ spellBy (template (codeOf (o .0))) (o .0) ++ o .1 .0 = rw code (r .text) in
-    (subst (λ (x : List ℤ). bs ≡ spellBy (template (codeOf x)) x ++ left) (p .1 .0) (text ∙ ap (λ (l : List ℕ). spellBy (template (codeOf (o .0))) (o .0) ++ l) (p .1 .1)),
-      subst (Gated w b) (p .1 .0) (record { size = r .size; each = r .each (bare-ranged (d .0) (spelled-most (d .0) (a .0))); right = p .0; known = rw code (a .0) }))
+    let text : bs ≡ spellBy (template (codeOf (o .0))) (o .0) ++ o .1 .0 = rw code (r .text) in (
+      subst (λ (x : List ℤ). bs ≡ spellBy (template (codeOf x)) x ++ left) (p .1 .0) (text ∙ ap (λ (l : List ℕ). spellBy (template (codeOf (o .0))) (o .0) ++ l) (p .1 .1)),
+      subst (Gated w b) (p .1 .0) (record { size = r .size; each = r .each (bare-ranged (d .0) (spelled-most (d .0) (a .0))); right = p .0; known = rw code (a .0) }),
+    )
   where
     passed : (r : List ℤ) (rest : List ℕ) → cond (eqb (faultAt r w b 0) 0) (found r rest) none ≡ found row left → (faultAt r w b 0 ≡ 0) × ((r ≡ row) × (rest ≡ left))
     passed r rest h = split (eqb (faultAt r w b 0) 0) (λ e. let g : found r rest ≡ found row left = rw e at h in (eqb-true (faultAt r w b 0) 0 e, (cc, cc))) (λ e. absent row left (rw e at h))

@@ -37,7 +37,7 @@ pub record Spellable (most w b : ℕ) (ns : List ℤ) : Type 0 where
 
 -- ---- gate by gate
 
-rows-right : (most w b : ℕ) (ns : List ℤ) → Spellable most w b ns → Each w b (length ns / width) ns
+pub rows-right : (most w b : ℕ) (ns : List ℤ) → Spellable most w b ns → Each w b (length ns / width) ns
 unfolding unspelled
 rows-right most w b ns s =
     let g : ℕ = length ns / width in

@@ -1,25 +1,22 @@
+-- `qasm::is_spelled` meets its contract.
+use mathlib.Core.Path.{_≡_, refl, sym, ap, _∙_}
+use native.Mathlib.Omega.{arith}
+use Rattle.qasm.proofs.Spans.{table-size, span-spelled, beyond-spelled}
 use borrow.Author.Needs.{needs}
 use Rattle.qasm.proofs.is_spelled.Statement.{statement}
 use Rattle.qasm.proofs.is_spelled.Tie as tie
-use Rattle.qasm.proofs.is_spelled.Reads as reads
-use Rattle.qasm.proofs.is_spelled.Lts as lts
-use Rattle.qasm.proofs.span_of.Reads as span-of-reads
 
--- src/lib.rt:115:9
 returns : tie.Need-returns
-returns c = ?
+returns c = sym (beyond-spelled ((c .before) .args .code) (c .if1 .taken))
 
--- src/lib.rt:117:9
 span-of-requires : tie.Need-span-of-requires
 span-of-requires c κs = search needs
 
--- src/lib.rt:120:5
 add-result : tie.Need-add-result
-add-result c = ?
+add-result c = omega (arith, c .span-of .ensures .ordered, c .span-of .ensures .within, table-size)
 
--- src/lib.rt:111:1
 returns-2 : tie.Need-returns-2
-returns-2 c = ?
+returns-2 c = sym (span-spelled ((c .before .before) .args .code) (c .span-of .result .from) (c .span-of .result .to) (c .span-of .ensures))
 
 pub is-spelled-spec : {M : Type 1} → statement M
 is-spelled-spec = tie.close (tie.spec returns span-of-requires add-result returns-2)

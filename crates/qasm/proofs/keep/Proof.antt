@@ -1,100 +1,91 @@
+-- `qasm::keep` meets its contract.
+use mathlib.Core.Path.{_≡_, refl, sym, ap, _∙_}
+use Prim.Native.Nat.{ℕ, suc, _+_, _-_, _*_, _/_, _^_, _≤_, _<_}
+use native.Mathlib.Omega.{arith}
+use borrow.Author.Tests.{eq-eqb, ne-eqb, lt-ltb, le-ltb, not-true, not-false}
+use mathlib.Core.List.{List}
+use lib.IntN.{ℤ, pos}
+use lib.ListN.{getD, length-set}
+use Rattle.rules.specs.Limits.{width}
+use mir.Syntax.{w32}
+use mir.ValLaws.{toZ-ofZ}
+use Rattle.qasm.proofs.Answers.{row-kept}
 use borrow.Author.Needs.{needs}
 use Rattle.qasm.proofs.keep.Statement.{statement}
 use Rattle.qasm.proofs.keep.Tie as tie
-use Rattle.qasm.proofs.keep.Reads as reads
-use Rattle.qasm.proofs.keep.Lts as lts
 
--- src/lib.rt:324:9
 returns : tie.Need-returns
-returns c = ?
+returns c = rw (le-ltb _ _ (c .if1 .taken))
 
--- src/lib.rt:326:14
 mul-at : tie.Need-mul-at
 mul-at c = search needs
 
--- src/lib.rt:327:19
 shared-slice-copy-out-numbers : tie.Need-shared-slice-copy-out-numbers
 shared-slice-copy-out-numbers c = search needs
 
--- src/lib.rt:327:5
 mul-numbers : tie.Need-mul-numbers
 mul-numbers c = search needs
 
--- src/lib.rt:327:5
 slice-set-from-numbers : tie.Need-slice-set-from-numbers
 slice-set-from-numbers c = search needs
 
--- src/lib.rt:328:23
 shared-slice-copy-out-numbers-2 : tie.Need-shared-slice-copy-out-numbers-2
 shared-slice-copy-out-numbers-2 c = search needs
 
--- src/lib.rt:328:13
 add-numbers : tie.Need-add-numbers
 add-numbers c = search needs
 
--- src/lib.rt:328:5
 mul-numbers-2 : tie.Need-mul-numbers-2
 mul-numbers-2 c = search needs
 
--- src/lib.rt:328:5
 slice-set-from-numbers-2 : tie.Need-slice-set-from-numbers-2
-slice-set-from-numbers-2 c = ?
+slice-set-from-numbers-2 c = simp length-set (omega arith)
 
--- src/lib.rt:329:23
 shared-slice-copy-out-numbers-3 : tie.Need-shared-slice-copy-out-numbers-3
 shared-slice-copy-out-numbers-3 c = search needs
 
--- src/lib.rt:329:13
 add-numbers-2 : tie.Need-add-numbers-2
 add-numbers-2 c = search needs
 
--- src/lib.rt:329:5
 mul-numbers-3 : tie.Need-mul-numbers-3
 mul-numbers-3 c = search needs
 
--- src/lib.rt:329:5
 slice-set-from-numbers-3 : tie.Need-slice-set-from-numbers-3
-slice-set-from-numbers-3 c = ?
+slice-set-from-numbers-3 c = simp length-set (omega arith)
 
--- src/lib.rt:330:23
 shared-slice-copy-out-numbers-4 : tie.Need-shared-slice-copy-out-numbers-4
 shared-slice-copy-out-numbers-4 c = search needs
 
--- src/lib.rt:330:13
 add-numbers-3 : tie.Need-add-numbers-3
 add-numbers-3 c = search needs
 
--- src/lib.rt:330:5
 mul-numbers-4 : tie.Need-mul-numbers-4
 mul-numbers-4 c = search needs
 
--- src/lib.rt:330:5
 slice-set-from-numbers-4 : tie.Need-slice-set-from-numbers-4
-slice-set-from-numbers-4 c = ?
+slice-set-from-numbers-4 c = simp length-set (omega arith)
 
--- src/lib.rt:331:23
 shared-slice-copy-out-numbers-5 : tie.Need-shared-slice-copy-out-numbers-5
 shared-slice-copy-out-numbers-5 c = search needs
 
--- src/lib.rt:331:13
 add-t12 : tie.Need-add-t12
 add-t12 c = search needs
 
--- src/lib.rt:331:5
 mul-t9 : tie.Need-mul-t9
 mul-t9 c = search needs
 
--- src/lib.rt:331:5
 slice-set-from-numbers-5 : tie.Need-slice-set-from-numbers-5
-slice-set-from-numbers-5 c = ?
+slice-set-from-numbers-5 c = simp length-set (omega arith)
 
--- src/lib.rt:318:1
 same-length : tie.Need-same-length
 same-length c = search needs
 
--- src/lib.rt:318:1
 returns-2 : tie.Need-returns-2
-returns-2 c = ?
+returns-2 c =
+    let s = (c .before .before .before .before .before .before) in
+    let row : List ℤ = s .args .row .now in
+    rw (lt-ltb (s .args .i) (s .args .most) ((c .before .before .before .before .before) .if1 .left), toZ-ofZ w32 (getD row 0 (pos 0)) (record { sfits = (c .before .before .before .before) .numbers .given }), toZ-ofZ w32 (getD row 1 (pos 0)) (record { sfits = (c .before .before .before) .numbers2 .given }), toZ-ofZ w32 (getD row 2 (pos 0)) (record { sfits = (c .before .before) .numbers3 .given }), toZ-ofZ w32 (getD row 3 (pos 0)) (record { sfits = (c .before) .numbers4 .given }), toZ-ofZ w32 (getD row 4 (pos 0)) (record { sfits = c .numbers5 .given }))
+    (row-kept (s .args .numbers .now) (width * s .args .i) row (s .pre .1) (omega (arith, s .pre .0)))
 
 pub keep-spec : {M : Type 1} → statement M
 keep-spec =

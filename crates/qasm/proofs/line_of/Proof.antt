@@ -1,36 +1,40 @@
+-- `qasm::line_of` meets its contract.
+use mathlib.Core.Path.{_≡_, refl, sym, ap, _∙_}
+use native.Mathlib.Omega.{arith}
+use borrow.Author.Tests.{eq-eqb, ne-eqb, lt-ltb, le-ltb, not-true, not-false}
+use lib.Dec.{ltb}
+use mathlib.Core.Bool.{Bool, true, false}
+use mir.Val.{boolByte}
+use Prim.Native.Nat.{_≤_}
 use borrow.Author.Needs.{needs}
 use Rattle.qasm.proofs.line_of.Statement.{statement}
 use Rattle.qasm.proofs.line_of.Tie as tie
-use Rattle.qasm.proofs.line_of.Reads as reads
-use Rattle.qasm.proofs.line_of.Lts as lts
 
--- src/lib.rt:313:13
+-- a test adds one at most
+one : (b : Bool) → boolByte b ≤ 1
+one true = omega arith
+one false = omega arith
+
 cast-result : tie.Need-cast-result
 cast-result c = search needs
 
--- src/lib.rt:313:9
 add-result : tie.Need-add-result
-add-result c = ?
+add-result c = let s = (c .before .before) .args in omega (arith, one (ltb 0 (s .wires)))
 
--- src/lib.rt:313:36
 cast-result-2 : tie.Need-cast-result-2
 cast-result-2 c = search needs
 
--- src/lib.rt:313:9
 add-result-2 : tie.Need-add-result-2
-add-result-2 c = ?
+add-result-2 c = let s = (c .before .before) .args in omega (arith, one (ltb 0 (s .wires)), one (ltb 0 (s .bits)))
 
--- src/lib.rt:305:1
 returns : tie.Need-returns
-returns c = ?
+returns c = rw (not-true ((c .before) .args .version) (c .if1 .taken))
 
--- src/lib.rt:305:1
 returns-2 : tie.Need-returns-2
-returns-2 c = ?
+returns-2 c = rw (not-false ((c .before .before) .args .version) ((c .before) .if1 .left), not-true ((c .before .before) .args .include) (c .if2 .taken))
 
--- src/lib.rt:305:1
 returns-3 : tie.Need-returns-3
-returns-3 c = ?
+returns-3 c = rw (not-false ((c .before .before) .args .version) ((c .before) .if1 .left), not-false ((c .before .before) .args .include) (c .if2 .left))
 
 pub line-of-spec : {M : Type 1} → statement M
 line-of-spec =

@@ -1,54 +1,66 @@
+-- `qasm::read_by` meets its contract: what is left of the template and of the text comes to what both do.
+use mathlib.Core.Path.{_≡_, refl, sym, ap, _∙_}
+use Prim.Native.Nat.{ℕ, suc, _+_, _-_, _*_, _/_, _^_, _≤_, _<_}
+use native.Mathlib.Omega.{arith}
+use borrow.Author.Tests.{eq-eqb, ne-eqb, lt-ltb, le-ltb, not-true, not-false}
+use lib.ListN.{length, getD, drop}
+use Rattle.text.proofs.Readings.{reads-ok, reads-no}
+use Rattle.qasm.specs.Statement.{readBy}
+use Rattle.qasm.proofs.Pieces.{by-stop, by-once, by-end}
 use Rattle.qasm.proofs.read_by.Statement.{statement}
 use Rattle.qasm.proofs.read_by.Tie as tie
-use Rattle.qasm.proofs.read_by.Reads as reads
-use Rattle.qasm.proofs.read_by.Lts as lts
-use Rattle.qasm.proofs.read_piece.Reads as read-piece-reads
 
 abbrev Inv-loop : tie.InvT-loop
-Inv-loop text at template row₀ n next₀ i₀ row next i = ?
+Inv-loop text at template row₀ n next₀ i₀ row next i = (i ≤ length template) × (next ≤ length text) × (length row ≡ length row₀) × (readBy (drop i template) (drop next text) row ≡ readBy template (drop at text) row₀)
 
 abbrev μ-loop : tie.MeasureT-loop
-μ-loop text at template row₀ n next₀ i₀ row next i = ?
+μ-loop text at template row₀ n next₀ i₀ row next i = length template - i
 
--- src/lib.rt:168:5
 loop-holds : tie.Need-loop-holds Inv-loop μ-loop
-loop-holds c = ?
+loop-holds c = (omega arith, (c .before .before) .pre .0, refl, refl)
 
--- src/lib.rt:169:40
 shared-slice-read-read-piece : tie.Need-shared-slice-read-read-piece Inv-loop μ-loop
-shared-slice-read-read-piece c = ?
+shared-slice-read-read-piece c = omega arith
 
--- src/lib.rt:169:13
 read-piece-requires : tie.Need-read-piece-requires Inv-loop μ-loop
-read-piece-requires c κs = ?
+read-piece-requires c κs = let s = (c .before .before .before .before .before .before) in let p = (c .before .before .before) .loop in (p .inv .1, p .inv .2 ∙ s .pre .1)
 
--- src/lib.rt:172:13
 same-length : tie.Need-same-length Inv-loop μ-loop
-same-length c = ?
+same-length c = (c .before .before) .read-piece .kept .1 .1 .1 .0 ∙ (c .before .before .before .before .before .before) .loop .inv .2
 
--- src/lib.rt:172:13
 returns : tie.Need-returns Inv-loop μ-loop
-returns c = ?
+returns c =
+    let s = (c .before .before .before .before .before .before .before .before .before) .args in
+    let p = (c .before .before .before .before .before .before) .loop in
+    record {
+      exact = sym (by-stop (s .template .now) (p .i) (omega arith) (drop (p .next) (s .text .now)) (p .row) (reads-no _ _ _ _ _ ((c .before .before) .read-piece .ensures) (not-true _ (c .if1 .taken)))) ∙ p .inv .3;
+      within = p .inv .1;
+    }
 
--- src/lib.rt:175:9
 add-i : tie.Need-add-i Inv-loop μ-loop
-add-i c = ?
+add-i c = omega arith
 
--- src/lib.rt:168:5
 loop-less : tie.Need-loop-less Inv-loop μ-loop
-loop-less c = ?
+loop-less c = omega arith
 
--- src/lib.rt:168:5
 loop-again : tie.Need-loop-again Inv-loop μ-loop
-loop-again c = ?
+loop-again c =
+    let s = (c .before .before .before .before .before .before .before .before .before) .args in
+    let p = (c .before .before .before .before .before .before) .loop in
+    let r = (c .before .before) .read-piece in
+    (omega arith, r .ensures .within, r .kept .1 .1 .1 .0 ∙ p .inv .2, by-once (s .template .now) (p .i) (omega arith) (drop (p .next) (s .text .now)) (p .row) _ _ (reads-ok _ _ _ _ _ (r .ensures) (not-false _ (c .if1 .left))) ∙ p .inv .3)
 
--- src/lib.rt:160:1
 same-length-2 : tie.Need-same-length-2 Inv-loop μ-loop
-same-length-2 c = ?
+same-length-2 c = (c .before) .loop .inv .2
 
--- src/lib.rt:160:1
 returns-2 : tie.Need-returns-2 Inv-loop μ-loop
-returns-2 c = ?
+returns-2 c =
+    let s = (c .before .before .before .before) .args in
+    let p = (c .before) .loop in
+    record {
+      exact = sym (by-end (s .template .now) (p .i) (drop (p .next) (s .text .now)) (p .row) (omega arith)) ∙ p .inv .3;
+      within = p .inv .1;
+    }
 
 pub read-by-spec : {M : Type 1} → statement M
 read-by-spec =

@@ -1,43 +1,52 @@
+-- `qasm::read_piece` meets its contract.
+use mathlib.Core.Path.{_≡_, refl, sym, ap, _∙_}
+use native.Mathlib.Omega.{arith}
+use borrow.Author.Tests.{eq-eqb, ne-eqb, lt-ltb, le-ltb, not-true, not-false}
+use Prim.Native.Nat.{ℕ, suc, _+_, _-_, _*_, _/_, _^_, _≤_, _<_}
+use mir.Syntax.{w32}
+use mir.ValLaws.{toZ-ofZ}
+use lib.Signed.{mag}
+use lib.Dec.{eqb}
+use mathlib.Core.Bool.{true, false}
+use Rattle.qasm.specs.Table.{fieldOf}
+use Rattle.qasm.proofs.Pieces.{reads-self, reads-number}
 use borrow.Author.Needs.{needs}
 use Rattle.qasm.proofs.read_piece.Statement.{statement}
 use Rattle.qasm.proofs.read_piece.Tie as tie
-use Rattle.qasm.proofs.read_piece.Reads as reads
-use Rattle.qasm.proofs.read_piece.Lts as lts
-use Rattle.qasm.proofs.field_of.Reads as field-of-reads
-use Rattle.text.proofs.read_byte.Reads as read-byte-reads
-use Rattle.text.proofs.read_integer.Reads as read-integer-reads
 
--- src/lib.rt:147:9
 field-of-requires : tie.Need-field-of-requires
-field-of-requires c κs = search needs
+field-of-requires c κs = tt
 
--- src/lib.rt:149:9
 read-byte-requires : tie.Need-read-byte-requires
 read-byte-requires c κs = search needs
 
--- src/lib.rt:149:9
 returns : tie.Need-returns
-returns c = ?
+returns c =
+    let s = (c .before .before .before .before) .args in
+    let e : eqb (fieldOf (s .b)) 0 ≡ true = rw ((c .before .before) .field-of .ensures .0) at (eq-eqb _ 0 ((c .before) .if1 .taken)) in
+    reads-self (s .text .now) (s .at) (s .b) (s .row .now) _ _ e (c .read-byte .ensures)
 
--- src/lib.rt:151:9
 read-integer-requires : tie.Need-read-integer-requires
 read-integer-requires c κs = search needs
 
--- src/lib.rt:153:5
 mul-value : tie.Need-mul-value
 mul-value c = search needs
 
--- src/lib.rt:153:5
 slice-set-from-value : tie.Need-slice-set-from-value
 slice-set-from-value c = search needs
 
--- src/lib.rt:142:1
 same-length : tie.Need-same-length
 same-length c = search needs
 
--- src/lib.rt:142:1
 returns-2 : tie.Need-returns-2
-returns-2 c = ?
+returns-2 c =
+    let s = (c .before .before .before .before .before) .args in
+    let k = (c .before .before .before) .field-of in
+    let v = (c .before) .read-integer in
+    let e : eqb (fieldOf (s .b)) 0 ≡ false = rw (k .ensures .0) at (ne-eqb _ 0 ((c .before .before) .if1 .left)) in
+    let fits : mag (v .result .value) < 2 ^ 31 = omega arith in
+    rw (toZ-ofZ w32 (v .result .value) (record { sfits = fits }), k .ensures .0)
+    (reads-number (s .text .now) (s .at) (s .b) (s .row .now) (v .result .ok) (v .result .value) (v .result .next) e (v .ensures))
 
 pub read-piece-spec : {M : Type 1} → statement M
 read-piece-spec =

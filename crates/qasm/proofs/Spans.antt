@@ -1,0 +1,108 @@
+-- Where the spelling of each code stands in the table, by computing; and what a caller learns of it.
+use mathlib.Core.Path.{_≡_, refl, sym, ap, _∙_}
+use mathlib.Core.Bool.{Bool, true, false, not, _&&_, cond, false≢true}
+use mathlib.Core.List.{List, [], _∷_}
+use Prim.Native.Nat.{ℕ, zero, suc, _+_, _-_, _*_, _≤_, _<_}
+use native.Mathlib.Numerals.{add-one}
+use native.Mathlib.Omega.{arith}
+use borrow.Author.Tests.{leb-true, ltb-true, ltb-false, lt-ltb, le-ltb}
+use lib.Dec.{eqb, leb, ltb}
+use lib.IntN.{ℤ}
+use lib.ListN.{length, getD, take, drop, length-take, length-drop}
+use lib.Seq.{getD-take, getD-drop}
+use Rattle.rules.specs.Limits.{lastCode}
+use Rattle.rules.proofs.Bits.{split, and-left, and-right}
+use Rattle.text.specs.Reading.{Found, none, found, word}
+use Rattle.text.specs.Contracts.{Reads}
+use Rattle.qasm.specs.Table.{table, linesOf, templates, template, spelled, fieldOf}
+use Rattle.qasm.specs.Statement.{bare, readBy, readAs}
+use Rattle.qasm.specs.Contracts.{Stands}
+use Rattle.qasm.proofs.Templates.{plain, read-self}
+use Rattle.qasm.proofs.Codes.{uses-code, beyond}
+
+-- the code's constant
+abbrev pub starts : List ℕ
+starts = 0 ∷ 0 ∷ 8 ∷ 16 ∷ 26 ∷ 34 ∷ 44 ∷ 52 ∷ 69 ∷ 83 ∷ 97 ∷ 105 ∷ 113 ∷ 114 ∷ 126 ∷ 127 ∷ 128 ∷ 129 ∷ 130 ∷ 131 ∷ 132 ∷ 133 ∷ 134 ∷ 135 ∷ 136 ∷ 156 ∷ 157 ∷ 158 ∷ 180 ∷ []
+
+-- the parts of the table between them
+parts : ℕ → List ℕ → List (List ℕ)
+parts a [] = []
+parts a (b ∷ ss) = take (b - a) (drop a table) ∷ parts b ss
+
+rising : ℕ → List ℕ → Bool
+rising a [] = true
+rising a (b ∷ ss) = (leb a b && leb b (length table)) && rising b ss
+
+part-at : (a : ℕ) (ss : List ℕ) (c : ℕ) → c < length ss → getD (parts a ss) c [] ≡ take (getD ss c 0 - getD (a ∷ ss) c 0) (drop (getD (a ∷ ss) c 0) table)
+unfolding parts
+part-at a [] c h = absurd (omega arith)
+part-at a (b ∷ ss) zero h = refl
+part-at a (b ∷ ss) (suc c) h = part-at b ss c (omega arith)
+
+rising-at : (a : ℕ) (ss : List ℕ) (c : ℕ) → rising a ss ≡ true → c < length ss → (getD (a ∷ ss) c 0 ≤ getD ss c 0) × (getD ss c 0 ≤ length table)
+unfolding rising
+rising-at a [] c e h = absurd (omega arith)
+rising-at a (b ∷ ss) zero e h =
+    let f = and-left (leb a b && leb b (length table)) (rising b ss) e in
+    (leb-true a b (and-left (leb a b) (leb b (length table)) f), leb-true b (length table) (and-right (leb a b) (leb b (length table)) f))
+rising-at a (b ∷ ss) (suc c) e h = rising-at b ss c (and-right (leb a b && leb b (length table)) (rising b ss) e) (omega arith)
+
+parts-are : parts 0 (drop 1 starts) ≡ templates
+unfolding parts templates
+parts-are = refl
+
+rising-are : rising 0 (drop 1 starts) ≡ true
+unfolding rising table
+rising-are = refl
+
+pub table-size : length table ≡ 180
+unfolding table
+table-size = refl
+
+pub span : (c : ℕ) → c ≤ lastCode → Stands c (getD starts c 0) (getD starts (c + 1) 0)
+unfolding template
+span c h =
+    let r = rising-at 0 (drop 1 starts) c rising-are (omega arith) in
+    let p : getD templates c [] ≡ take (getD (drop 1 starts) c 0 - getD starts c 0) (drop (getD starts c 0) table) = ap (λ (ts : List (List ℕ)). getD ts c []) (sym parts-are) ∙ part-at 0 (drop 1 starts) c (omega arith) in
+    rw (add-one c) (record { part = sym p; ordered = r .0; within = r .1 })
+
+-- ---- what a caller learns
+
+module _ (c from to : ℕ) (s : Stands c from to) where
+  pub span-size : length (template c) ≡ to - from
+  span-size = ap length (sym (s .part)) ∙ length-take (to - from) (drop from table) ∙ omega (arith, length-drop from table, s .ordered, s .within)
+
+  -- more than LF
+  pub span-spelled : spelled c ≡ ltb (from + 1) to
+  unfolding spelled
+  span-spelled =
+      split (ltb (from + 1) to)
+      (λ e. rw (span-size, e) (lt-ltb 1 (to - from) (omega (arith, ltb-true (from + 1) to e))))
+      (λ e. rw (span-size, e) (le-ltb 1 (to - from) (omega (arith, ltb-false (from + 1) to e))))
+
+  -- its first byte
+  pub span-first : from < to → getD table from 0 ≡ getD (template c) 0 0
+  span-first h =
+      sym (ap (λ (t : List ℕ). getD t 0 0) (sym (s .part)) ∙ getD-take (to - from) (drop from table) 0 0 (omega arith) ∙ getD-drop from table 0 0 ∙ ap (λ (k : ℕ). getD table k 0) (omega arith))
+
+pub beyond-spelled : (c : ℕ) → lastCode < c → spelled c ≡ false
+unfolding spelled
+beyond-spelled c h = rw (beyond c h)
+
+-- ---- a gate of a code, by the first byte of its spelling
+
+pub as-unspelled : (c : ℕ) (bs : List ℕ) → spelled c ≡ false → readAs c bs ≡ none
+unfolding readAs
+as-unspelled c bs e = rw e
+
+pub as-spelled : (c : ℕ) (bs : List ℕ) → spelled c ≡ true → readAs c bs ≡ readBy (template c) bs (bare c)
+unfolding readAs
+as-spelled c bs e = rw e
+
+pub as-other : (c : ℕ) (bs : List ℕ) → spelled c ≡ true → word (getD (template c) 0 0 ∷ []) bs ≡ none → readAs c bs ≡ none
+unfolding readBy
+as-other c bs e h = as-spelled c bs e ∙ go (template c) (uses-code c e .opens) h
+  where
+    go : (t : List ℕ) → plain t ≡ true → word (getD t 0 0 ∷ []) bs ≡ none → readBy t bs (bare c) ≡ none
+    go [] p h = absurd (false≢true p)
+    go (b ∷ t) p h = rw (read-self b bs (bare c) (and-left _ _ p), h)
