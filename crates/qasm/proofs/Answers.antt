@@ -1,8 +1,8 @@
 -- What import answers once every line is right; and a gate's numbers put into a room.
 use mathlib.Core.Path.{_≡_, refl, sym, ap, _∙_}
-use mathlib.Core.Bool.{Bool, true, false, _||_, cond}
-use mathlib.Core.List.{List, [], _∷_, _++_}
-use Prim.Native.Nat.{ℕ, suc, _+_, _*_, _/_, _≤_, _<_}
+use mathlib.Core.Bool.{true, false, _||_}
+use mathlib.Core.List.{List, [], _∷_}
+use Prim.Native.Nat.{ℕ, suc, _+_, _/_, _≤_, _<_}
 use native.Mathlib.Omega.{arith}
 use borrow.Author.Tests.{lt-ltb, le-ltb}
 use lib.Dec.{ltb}
@@ -13,7 +13,7 @@ use Rattle.rules.specs.Limits.{width, maxWires, maxBits}
 use Rattle.text.specs.Bytes.{pasted}
 use Rattle.qasm.specs.Statement.{bare}
 use Rattle.qasm.specs.Contracts.{Judges}
-use Rattle.qasm.specs.declared.Imported.the-variants.{Wrong, Many, Large, Good}
+use Rattle.qasm.specs.declared.Imported.the-variants.{Many, Large, Good}
 
 module _ (wires bits count most : ℕ) where
   pub judges-many : most < count → Judges wires bits count most Many

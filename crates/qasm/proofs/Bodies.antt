@@ -1,22 +1,21 @@
 -- The gates' lines, both ways.
-use mathlib.Core.Path.{_≡_, refl, sym, ap, _∙_, subst}
-use mathlib.Core.Bool.{true, false, cond}
-use mathlib.Core.List.{List, [], _∷_, _++_, append-nil}
-use Prim.Native.Nat.{ℕ, zero, suc, _+_, _*_, _/_, _≤_, _<_}
+use mathlib.Core.Path.{_≡_, refl, ap, _∙_}
+use mathlib.Core.List.{List, [], _∷_, _++_}
+use Prim.Native.Nat.{ℕ, zero, suc, _+_, _*_, _≤_, _<_}
 use native.Mathlib.Nat.{add-zero}
 use native.Mathlib.Omega.{arith}
-use lib.IntN.{ℤ, pos}
-use lib.ListN.{length, take, drop, length-append, length-take, length-drop, take-append-drop}
+use lib.IntN.{ℤ}
+use lib.ListN.{length, take, drop, length-append, length-drop, take-append-drop}
 use lib.Seq.{take-at, drop-at}
 use Rattle.rules.specs.Limits.{width}
 use Rattle.text.specs.Reading.{Found, none, found, onward}
-use Rattle.spelling.specs.Lines.{Lines, bad, good}
+use Rattle.spelling.specs.Lines.{bad, good}
 use Rattle.spelling.specs.Reading.{Rows}
 use Rattle.spelling.proofs.Spelling.{apart, Ranged, ranged-append}
 use Rattle.qasm.specs.Statement.{statementText, statement}
 use Rattle.qasm.specs.Import.{atEnd, body}
 use Rattle.qasm.specs.Export.{statementsText}
-use Rattle.qasm.proofs.Statements.{Gated, read-statement, statement-read, statement-some}
+use Rattle.qasm.proofs.Statements.{read-statement, statement-read, statement-some}
 use Rattle.qasm.proofs.Gates.{Each, each-cons}
 
 -- ---- the end of the text, or not yet

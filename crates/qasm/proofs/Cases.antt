@@ -1,10 +1,9 @@
 -- Laboratories' texts and what import says of them, by computing.
 use mathlib.Core.Path.{_≡_, refl}
 use mathlib.Core.Bool.{true, false}
-use mathlib.Core.List.{List, [], _∷_, _++_, map}
-use Prim.Native.Nat.{ℕ}
+use mathlib.Core.List.{[], _∷_, _++_, map}
 use Prim.Native.String.{String}
-use lib.IntN.{ℤ, pos, negsuc}
+use lib.IntN.{pos, negsuc}
 use Rattle.rules.specs.Refusal.{faultAt}
 use Rattle.text.specs.Bytes.{bytes}
 use Rattle.text.specs.Printing.{printed}

@@ -1,18 +1,17 @@
 -- The table, by tests that compute: each spelling is sound and names the numbers that its code uses, and no two begin alike.
-use mathlib.Core.Path.{_≡_, refl, sym, ap, _∙_, subst}
-use mathlib.Core.Bool.{Bool, true, false, not, _&&_, _||_, cond, false≢true, true≢false}
-use mathlib.Core.List.{List, [], _∷_, _++_}
-use Prim.Native.Nat.{ℕ, zero, suc, _+_, _*_, _≤_, _<_}
+use mathlib.Core.Path.{_≡_, refl, sym}
+use mathlib.Core.Bool.{Bool, true, false, not, _&&_, _||_, cond, false≢true}
+use mathlib.Core.List.{List, [], _∷_}
+use Prim.Native.Nat.{ℕ, zero, suc, _+_, _≤_, _<_}
 use native.Mathlib.Nat.{add-zero, zero-add}
 use native.Mathlib.Omega.{arith}
-use borrow.Author.Tests.{ltb-true, ltb-false, leb-true, eqb-true}
+use borrow.Author.Tests.{ltb-true, ltb-false, leb-true}
 use lib.Dec.{eqb, leb, ltb}
-use lib.IntN.{ℤ, pos}
 use lib.ListN.{length, getD, List·getD-eq-default}
 use Rattle.rules.specs.Limits.{lastCode}
 use Rattle.rules.specs.Gate.{second, bitted, third, turned}
 use Rattle.rules.proofs.Bits.{split, and-left, and-right}
-use Rattle.qasm.specs.Table.{linesOf, templates, template, written, spelled, fieldOf}
+use Rattle.qasm.specs.Table.{templates, template, written, spelled, fieldOf}
 use Rattle.qasm.specs.Import.{wiresLine, bitsLine}
 use Rattle.qasm.specs.Contracts.{templateSize, statementSize, registerSize}
 use Rattle.qasm.proofs.Templates.{names, plain, sound, apart}

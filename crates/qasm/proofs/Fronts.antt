@@ -1,24 +1,23 @@
 -- What the reading functions come to, over plain variables: codes one after another, a register, the lines before the gates.
-use mathlib.Core.Path.{_≡_, refl, sym, ap, _∙_}
-use mathlib.Core.Bool.{Bool, true, false, _&&_, cond, false≢true}
-use mathlib.Core.List.{List, [], _∷_, _++_}
+use mathlib.Core.Path.{_≡_, refl, sym, _∙_}
+use mathlib.Core.Bool.{Bool, true, false, _&&_, cond}
+use mathlib.Core.List.{List}
 use Prim.Native.Nat.{ℕ, zero, suc, _+_, _-_, _≤_, _<_}
 use native.Mathlib.Numerals.{add-one}
 use native.Mathlib.Omega.{arith}
-use borrow.Author.Tests.{ltb-true, ltb-false, lt-ltb, le-ltb, ne-eqb, eq-eqb}
+use borrow.Author.Tests.{ltb-true, ltb-false, lt-ltb, ne-eqb, eq-eqb}
 use lib.Dec.{eqb, ltb}
 use lib.IntN.{ℤ, pos}
 use lib.ListN.{length, getD, drop}
 use mir.Val.{boolByte}
-use Rattle.rules.specs.Limits.{lastCode}
 use Rattle.rules.specs.Numbers.{natOf}
 use Rattle.rules.specs.Refusal.{faultAt}
-use Rattle.rules.proofs.Bits.{split, and-left, and-right}
+use Rattle.rules.proofs.Bits.{and-left, and-right}
 use Rattle.text.specs.Reading.{Found, none, found, onward, word}
 use Rattle.text.specs.Contracts.{reached, Reads}
 use Rattle.text.proofs.Readings.{reads-ok, reads-no}
 use Rattle.spelling.specs.Lines.{bad, good}
-use Rattle.qasm.specs.Statement.{bare, readBy, readAs, orElse, readFirst, anyGate, statement}
+use Rattle.qasm.specs.Statement.{bare, readBy, readAs, readFirst, anyGate, statement}
 use Rattle.qasm.specs.Import.{versionLine, includeLine, wiresLine, bitsLine, register, perhaps, opening}
 use Rattle.qasm.specs.Contracts.{ReadsSize, lineAfter}
 

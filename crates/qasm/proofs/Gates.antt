@@ -1,7 +1,7 @@
 -- The gates of a list, one by one: right and spelled, by their rows and by their places.
-use mathlib.Core.Path.{_≡_, refl, sym, ap, _∙_, subst}
-use mathlib.Core.Bool.{true, false, cond}
-use mathlib.Core.List.{List, [], _∷_, _++_}
+use mathlib.Core.Path.{_≡_, sym, ap, _∙_, subst}
+use mathlib.Core.Bool.{true, false}
+use mathlib.Core.List.{List, [], _++_}
 use Prim.Native.Nat.{ℕ, zero, suc, _+_, _-_, _*_, _/_, _≤_, _<_}
 use native.Mathlib.Nat.{add-zero}
 use native.Mathlib.Numerals.{add-one}
@@ -13,10 +13,9 @@ use Rattle.rules.specs.Limits.{width}
 use Rattle.rules.specs.Numbers.{natOf, field}
 use Rattle.rules.specs.Refusal.{faultAt}
 use Rattle.rules.proofs.Bits.{split, same}
-use Rattle.spelling.proofs.Spelling.{Ranged, ranged-take, ranged-drop}
 use Rattle.qasm.specs.Table.{spelled}
 use Rattle.qasm.specs.Statement.{statementText}
-use Rattle.qasm.specs.Export.{statementsText, unspelledFrom, unspelled}
+use Rattle.qasm.specs.Export.{statementsText, unspelledFrom}
 use Rattle.qasm.proofs.Statements.{codeOf, Gated}
 
 -- ---- by rows

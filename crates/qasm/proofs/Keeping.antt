@@ -1,8 +1,8 @@
 -- The gates that are kept while there is room, and what import says of the whole text.
 use mathlib.Core.Path.{_≡_, refl, sym, ap, _∙_}
-use mathlib.Core.Bool.{Bool, true, false, cond, _||_, true≢false}
-use mathlib.Core.List.{List, [], _∷_, _++_}
-use Prim.Native.Nat.{ℕ, zero, suc, _+_, _-_, _*_, _/_, _≤_, _<_}
+use mathlib.Core.Bool.{true, false, cond, true≢false}
+use mathlib.Core.List.{List, [], _++_}
+use Prim.Native.Nat.{ℕ, suc, _+_, _-_, _*_, _≤_, _<_}
 use native.Mathlib.Nat.{zero-add, sub-zero}
 use native.Mathlib.Omega.{arith}
 use borrow.Author.Tests.{ltb-true, ltb-false}
@@ -19,7 +19,7 @@ use Rattle.text.proofs.Pasting.{pasted-none, pasted-both}
 use Rattle.spelling.specs.Lines.{bad, good}
 use Rattle.spelling.specs.Reading.{Rows}
 use Rattle.qasm.specs.Statement.{statement}
-use Rattle.qasm.specs.Import.{Registers, opening, body, judged, gathered, readQasm}
+use Rattle.qasm.specs.Import.{Registers, opening, body, gathered, readQasm}
 use Rattle.qasm.specs.Contracts.{ReadsBody, ReadsQasm, Judges, met}
 use Rattle.qasm.specs.declared.Imported.{Imported}
 use Rattle.qasm.specs.declared.Imported.the-variants.{Wrong}

@@ -1,28 +1,28 @@
 -- The lines before the gates, both ways: a register that is left out isn't found in what comes next.
 use mathlib.Core.Path.{_≡_, refl, sym, ap, _∙_, subst}
-use mathlib.Core.Bool.{Bool, true, false, not, _&&_, _||_, cond, false≢true}
-use mathlib.Core.List.{List, [], _∷_, _++_, append-assoc, append-nil}
-use Prim.Native.Nat.{ℕ, zero, suc, _+_, _*_, _≤_, _<_}
+use mathlib.Core.Bool.{true, false, cond, false≢true}
+use mathlib.Core.List.{List, [], _∷_, _++_, append-assoc}
+use Prim.Native.Nat.{ℕ, zero, suc, _+_, _≤_}
 use native.Mathlib.Omega.{arith}
 use borrow.Author.Tests.{eqb-true, eqb-false, ne-eqb}
 use lib.Dec.{eqb}
 use lib.IntN.{ℤ, pos, negsuc}
-use lib.ListN.{length, getD, take, drop}
+use lib.ListN.{getD, take, drop}
 use lib.Signed.{mag}
 use Rattle.rules.specs.Limits.{width}
 use Rattle.rules.specs.Numbers.{natOf}
-use Rattle.rules.proofs.Bits.{split, and-left, and-right}
-use Rattle.text.specs.Reading.{Found, none, found, onward, largest, word}
+use Rattle.rules.proofs.Bits.{split, and-left}
+use Rattle.text.specs.Reading.{Found, none, found, largest, word}
 use Rattle.text.proofs.Lines.{absent, goes-on, read-word, word-read}
-use Rattle.spelling.specs.Lines.{Lines, bad, good, line}
+use Rattle.spelling.specs.Lines.{Lines, good}
 use Rattle.spelling.proofs.Spelling.{Ranged, line-goes}
 use Rattle.qasm.specs.Table.{templates, template, spelled, fieldOf}
-use Rattle.qasm.specs.Statement.{piece, spellBy, readBy, statementText, bare}
+use Rattle.qasm.specs.Statement.{spellBy, readBy, statementText, bare}
 use Rattle.qasm.specs.Import.{versionLine, includeLine, wiresLine, bitsLine, register, perhaps, Registers, opening}
 use Rattle.qasm.specs.Export.{sized, registerText, statementsText, openingText}
 use Rattle.qasm.proofs.Templates.{sound, plain, filled, ranged-at, read-self, read-spelled, by-read, apart, apart-none}
 use Rattle.qasm.proofs.Codes.{against, apart-first}
-use Rattle.qasm.proofs.Statements.{codeOf, Gated}
+use Rattle.qasm.proofs.Statements.{codeOf}
 use Rattle.qasm.proofs.Gates.{Each}
 
 -- ---- what is asked of a register's template

@@ -1,8 +1,8 @@
 -- A template byte by byte: one more, one that isn't there, and none left; read, and written.
-use mathlib.Core.Path.{_≡_, refl, sym, ap, _∙_}
-use mathlib.Core.Bool.{Bool, true, false, cond}
+use mathlib.Core.Path.{_≡_}
+use mathlib.Core.Bool.{Bool, true, false}
 use mathlib.Core.List.{List, [], _∷_, _++_}
-use Prim.Native.Nat.{ℕ, suc, _+_, _-_, _≤_, _<_}
+use Prim.Native.Nat.{ℕ, _+_, _-_, _≤_, _<_}
 use native.Mathlib.Numerals.{add-one}
 use native.Mathlib.Omega.{arith}
 use lib.Dec.{eqb}
@@ -13,7 +13,7 @@ use mir.Syntax.{w32}
 use mir.Val.{SFits}
 use Rattle.text.specs.Bytes.{lf}
 use Rattle.text.specs.Printing.{printed, endedText}
-use Rattle.text.specs.Reading.{Found, none, found, onward, integer, word}
+use Rattle.text.specs.Reading.{none, found, onward, integer, word}
 use Rattle.text.specs.Contracts.{reached, Reads, Writes, Prints}
 use Rattle.text.proofs.Readings.{reads-end}
 use Rattle.text.proofs.Sizes.{ended-short}

@@ -1,10 +1,10 @@
 -- How long an exported text is: every list that export takes gives one that import reads.
-use mathlib.Core.Path.{_≡_, refl, sym, ap, _∙_}
-use mathlib.Core.Bool.{Bool, true, false, cond}
+use mathlib.Core.Path.{_≡_, refl}
+use mathlib.Core.Bool.{true, false}
 use mathlib.Core.List.{List, [], _∷_, _++_}
-use Prim.Native.Nat.{ℕ, zero, suc, _+_, _*_, _/_, _^_, _≤_, _<_}
+use Prim.Native.Nat.{ℕ, zero, suc, _+_, _*_, _/_, _≤_, _<_}
 use native.Mathlib.Omega.{arith}
-use borrow.Author.Tests.{eqb-true, eqb-false}
+use borrow.Author.Tests.{eqb-true}
 use lib.Dec.{eqb}
 use lib.IntN.{ℤ, pos}
 use lib.ListN.{length, getD, take, drop, length-append}
@@ -12,7 +12,7 @@ use Rattle.rules.specs.Limits.{width, maxWires, maxBits}
 use Rattle.rules.specs.Gate.{second, bitted, third}
 use Rattle.rules.specs.Numbers.{natOf}
 use Rattle.rules.proofs.Bits.{split}
-use Rattle.text.specs.Printing.{decimal, printed}
+use Rattle.text.specs.Printing.{printed}
 use Rattle.text.proofs.Decimals.{decimal-long}
 use Rattle.qasm.specs.Table.{template, fieldOf}
 use Rattle.qasm.specs.Statement.{piece, spellBy, statementText}

@@ -1,20 +1,18 @@
 -- Where the spelling of each code stands in the table, by computing; and what a caller learns of it.
 use mathlib.Core.Path.{_≡_, refl, sym, ap, _∙_}
-use mathlib.Core.Bool.{Bool, true, false, not, _&&_, cond, false≢true}
+use mathlib.Core.Bool.{Bool, true, false, _&&_, false≢true}
 use mathlib.Core.List.{List, [], _∷_}
-use Prim.Native.Nat.{ℕ, zero, suc, _+_, _-_, _*_, _≤_, _<_}
+use Prim.Native.Nat.{ℕ, zero, suc, _+_, _-_, _≤_, _<_}
 use native.Mathlib.Numerals.{add-one}
 use native.Mathlib.Omega.{arith}
 use borrow.Author.Tests.{leb-true, ltb-true, ltb-false, lt-ltb, le-ltb}
-use lib.Dec.{eqb, leb, ltb}
-use lib.IntN.{ℤ}
+use lib.Dec.{leb, ltb}
 use lib.ListN.{length, getD, take, drop, length-take, length-drop}
 use lib.Seq.{getD-take, getD-drop}
 use Rattle.rules.specs.Limits.{lastCode}
 use Rattle.rules.proofs.Bits.{split, and-left, and-right}
-use Rattle.text.specs.Reading.{Found, none, found, word}
-use Rattle.text.specs.Contracts.{Reads}
-use Rattle.qasm.specs.Table.{table, linesOf, templates, template, spelled, fieldOf}
+use Rattle.text.specs.Reading.{none, word}
+use Rattle.qasm.specs.Table.{table, templates, template, spelled}
 use Rattle.qasm.specs.Statement.{bare, readBy, readAs}
 use Rattle.qasm.specs.Contracts.{Stands}
 use Rattle.qasm.proofs.Templates.{plain, read-self}

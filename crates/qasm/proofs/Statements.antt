@@ -1,27 +1,27 @@
 -- A statement, both ways: a gate that is right and spelled is read back from its line, and a line that is read is the gate's.
 use mathlib.Core.Path.{_≡_, refl, sym, ap, _∙_, subst}
-use mathlib.Core.Bool.{Bool, true, false, not, _&&_, _||_, cond, false≢true, true≢false}
+use mathlib.Core.Bool.{Bool, true, false, _||_, cond, false≢true}
 use mathlib.Core.List.{List, [], _∷_, _++_}
-use Prim.Native.Nat.{ℕ, zero, suc, _+_, _*_, _≤_, _<_}
+use Prim.Native.Nat.{ℕ, zero, suc, _+_, _≤_, _<_}
 use native.Mathlib.Omega.{arith}
-use borrow.Author.Tests.{eqb-true, eq-eqb}
+use borrow.Author.Tests.{eqb-true}
 use lib.Dec.{eqb}
 use lib.IntN.{ℤ, pos}
-use lib.ListN.{length, getD, set, length-set, length-append}
+use lib.ListN.{length, getD, set, length-set}
 use lib.Seq.{getD-set-same, getD-set-other, ext-getD}
 use Rattle.rules.specs.Limits.{width, lastCode}
 use Rattle.rules.specs.Gate.{second, bitted, third, turned}
-use Rattle.rules.specs.Numbers.{natOf, gateAt}
+use Rattle.rules.specs.Numbers.{natOf}
 use Rattle.rules.specs.Refusal.{faultAt}
 use Rattle.rules.proofs.Bits.{split, same, and-left}
 use Rattle.rules.proofs.Accepting.{Fit, Signless, fit, signless}
-use Rattle.text.specs.Reading.{Found, none, found, onward}
+use Rattle.text.specs.Reading.{Found, none, found}
 use Rattle.text.proofs.Lines.{absent, goes-on}
 use Rattle.spelling.proofs.Spelling.{Ranged}
 use Rattle.qasm.specs.Table.{template, spelled, fieldOf}
-use Rattle.qasm.specs.Statement.{piece, spellBy, readBy, statementText, bare, readAs, orElse, readFirst, anyGate, statement}
-use Rattle.qasm.proofs.Templates.{names, plain, no-code, filled, field-lt, piece-self, read-spelled, ByRead, by-read, apart-none}
-use Rattle.qasm.proofs.Codes.{Fine, fine, Uses, uses-code, spelled-most, apart-codes}
+use Rattle.qasm.specs.Statement.{spellBy, readBy, statementText, bare, readAs, orElse, readFirst, anyGate, statement}
+use Rattle.qasm.proofs.Templates.{names, plain, no-code, filled, field-lt, piece-self, read-spelled, by-read, apart-none}
+use Rattle.qasm.proofs.Codes.{fine, Uses, uses-code, spelled-most, apart-codes}
 
 -- ---- the numbers that a template fills in
 

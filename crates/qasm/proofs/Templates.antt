@@ -4,18 +4,18 @@ use mathlib.Core.Bool.{Bool, true, false, not, _&&_, _||_, cond, false≢true}
 use mathlib.Core.List.{List, [], _∷_, _++_, append-assoc}
 use Prim.Native.Nat.{ℕ, zero, suc, _+_, _≤_, _<_}
 use native.Mathlib.Omega.{arith}
-use borrow.Author.Tests.{eqb-true, eqb-false, not-true}
+use borrow.Author.Tests.{eqb-false, not-true}
 use lib.Dec.{eqb}
 use lib.IntN.{ℤ, pos}
 use lib.ListN.{length, getD, set, length-set}
 use lib.Seq.{getD-set-same, getD-set-other}
 use lib.Signed.{mag}
 use Rattle.rules.specs.Limits.{width}
-use Rattle.rules.proofs.Bits.{split, and-left, and-right, eqb-self}
+use Rattle.rules.proofs.Bits.{split, and-left, and-right}
 use Rattle.text.specs.Bytes.{isDigit, first}
 use Rattle.text.specs.Printing.{printed}
-use Rattle.text.specs.Reading.{Found, none, found, onward, largest, integer, word}
-use Rattle.text.proofs.Lines.{absent, goes-on, read-word, word-read}
+use Rattle.text.specs.Reading.{none, found, onward, largest, integer, word}
+use Rattle.text.proofs.Lines.{goes-on, read-word, word-read}
 use Rattle.text.proofs.Grammar.{read-printed, printed-read}
 use Rattle.spelling.proofs.Spelling.{Ranged}
 use Rattle.qasm.specs.Table.{fieldOf}

@@ -1,29 +1,26 @@
 -- Round trips: what is exported is imported as it was, and what is imported is exported byte for byte.
 use mathlib.Core.Path.{_≡_, refl, sym, ap, _∙_, subst}
-use mathlib.Core.Bool.{Bool, true, false, _||_, cond, false≢true}
-use mathlib.Core.List.{List, [], _∷_, _++_}
-use Prim.Native.Nat.{ℕ, zero, suc, _+_, _*_, _/_, _≤_, _<_}
+use mathlib.Core.Bool.{Bool, true, false, _||_, false≢true}
+use mathlib.Core.List.{List, [], _++_}
+use Prim.Native.Nat.{ℕ, _+_, _*_, _/_, _≤_, _<_}
 use native.Mathlib.Nat.{zero-add}
 use native.Mathlib.Omega.{arith}
 use borrow.Author.Tests.{ltb-false, le-ltb}
 use lib.Dec.{ltb}
-use lib.IntN.{ℤ, pos}
-use lib.ListN.{length, take, drop}
+use lib.IntN.{ℤ}
+use lib.ListN.{length, drop}
 use Rattle.rules.specs.Limits.{width, maxWires, maxBits}
-use Rattle.rules.specs.Numbers.{natOf, field}
 use Rattle.rules.specs.Refusal.{faultAt}
 use Rattle.rules.proofs.Bits.{split}
-use Rattle.text.specs.Reading.{largest}
 use Rattle.spelling.specs.Lines.{Lines, bad, good}
 use Rattle.spelling.specs.Reading.{Rows}
 use Rattle.spelling.proofs.Spelling.{Ranged, ranged-take, ranged-drop}
 use Rattle.qasm.specs.Table.{spelled}
-use Rattle.qasm.specs.Import.{Import, wrong, many, large, list, Registers, opening, body, judged, gathered, opened, readQasm}
-use Rattle.qasm.specs.Export.{openingText, statementsText, qasmText, unspelledFrom, unspelled}
-use Rattle.qasm.proofs.Statements.{Gated}
-use Rattle.qasm.proofs.Gates.{Each, rowAt, each-at, at-each, row-fault, row-code, row-size, all-spelled, spelled-all}
-use Rattle.qasm.proofs.Bodies.{statements-some, read-body, BodyRead, body-read}
-use Rattle.qasm.proofs.Openings.{past, read-opening, OpeningRead, opening-read}
+use Rattle.qasm.specs.Import.{wrong, many, large, list, Registers, opening, body, judged, gathered, opened, readQasm}
+use Rattle.qasm.specs.Export.{openingText, statementsText, qasmText, unspelled}
+use Rattle.qasm.proofs.Gates.{Each, each-at, at-each, row-fault, row-code, row-size, all-spelled, spelled-all}
+use Rattle.qasm.proofs.Bodies.{statements-some, read-body, body-read}
+use Rattle.qasm.proofs.Openings.{past, read-opening, opening-read}
 
 -- a list that export takes, of at most so many gates; and what import gives
 pub record Spellable (most w b : ℕ) (ns : List ℤ) : Type 0 where

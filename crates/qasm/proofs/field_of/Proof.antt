@@ -1,7 +1,6 @@
 -- `qasm::field_of` meets its contract.
-use mathlib.Core.Path.{_≡_, refl, sym, ap, _∙_}
 use native.Mathlib.Omega.{arith}
-use borrow.Author.Tests.{eq-eqb, ne-eqb, lt-ltb, le-ltb, not-true, not-false}
+use borrow.Author.Tests.{eq-eqb, ne-eqb}
 use Rattle.qasm.specs.Table.{fieldOf}
 use Rattle.qasm.proofs.field_of.Statement.{statement}
 use Rattle.qasm.proofs.field_of.Tie as tie

@@ -1,5 +1,5 @@
 -- `qasm::is_spelled` meets its contract.
-use mathlib.Core.Path.{_≡_, refl, sym, ap, _∙_}
+use mathlib.Core.Path.{sym}
 use native.Mathlib.Omega.{arith}
 use Rattle.qasm.proofs.Spans.{table-size, span-spelled, beyond-spelled}
 use borrow.Author.Needs.{needs}

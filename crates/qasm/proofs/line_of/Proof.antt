@@ -1,7 +1,6 @@
 -- `qasm::line_of` meets its contract.
-use mathlib.Core.Path.{_≡_, refl, sym, ap, _∙_}
 use native.Mathlib.Omega.{arith}
-use borrow.Author.Tests.{eq-eqb, ne-eqb, lt-ltb, le-ltb, not-true, not-false}
+use borrow.Author.Tests.{not-true, not-false}
 use lib.Dec.{ltb}
 use mathlib.Core.Bool.{Bool, true, false}
 use mir.Val.{boolByte}

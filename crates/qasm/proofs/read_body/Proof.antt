@@ -1,14 +1,13 @@
 -- `qasm::read_body` meets its contract: what is left of the text comes to what all of it does.
-use mathlib.Core.Path.{_≡_, refl, sym, ap, _∙_}
-use Prim.Native.Nat.{ℕ, suc, _+_, _-_, _*_, _/_, _^_, _≤_, _<_}
+use mathlib.Core.Path.{_≡_, refl, _∙_}
+use Prim.Native.Nat.{ℕ, suc, _+_, _-_, _≤_, _<_}
 use native.Mathlib.Omega.{arith}
-use borrow.Author.Tests.{eq-eqb, ne-eqb, lt-ltb, le-ltb, not-true, not-false}
-use mathlib.Core.List.{List, []}
+use borrow.Author.Tests.{not-true, not-false}
+use mathlib.Core.List.{List}
 use native.Mathlib.Nat.{add-zero, sub-zero}
 use lib.ListN.{length, drop, length-drop, drop-of-length-le}
 use Rattle.rules.specs.Limits.{width}
 use Rattle.text.proofs.Readings.{reads-ok, reads-no}
-use Rattle.spelling.specs.Reading.{Rows}
 use Rattle.qasm.specs.Import.{body}
 use Rattle.qasm.proofs.Bodies.{statement-further}
 use Rattle.qasm.proofs.Keeping.{Goes, goes-first, goes-more, goes-stop, goes-end}

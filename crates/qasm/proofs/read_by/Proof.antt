@@ -1,9 +1,9 @@
 -- `qasm::read_by` meets its contract: what is left of the template and of the text comes to what both do.
-use mathlib.Core.Path.{_≡_, refl, sym, ap, _∙_}
-use Prim.Native.Nat.{ℕ, suc, _+_, _-_, _*_, _/_, _^_, _≤_, _<_}
+use mathlib.Core.Path.{_≡_, refl, sym, _∙_}
+use Prim.Native.Nat.{_-_, _≤_}
 use native.Mathlib.Omega.{arith}
-use borrow.Author.Tests.{eq-eqb, ne-eqb, lt-ltb, le-ltb, not-true, not-false}
-use lib.ListN.{length, getD, drop}
+use borrow.Author.Tests.{not-true, not-false}
+use lib.ListN.{length, drop}
 use Rattle.text.proofs.Readings.{reads-ok, reads-no}
 use Rattle.qasm.specs.Statement.{readBy}
 use Rattle.qasm.proofs.Pieces.{by-stop, by-once, by-end}

@@ -1,8 +1,7 @@
 -- `qasm::read_gate` meets its contract: the codes that are left come to what all of them do.
-use mathlib.Core.Path.{_≡_, refl, sym, ap, _∙_}
-use Prim.Native.Nat.{ℕ, suc, _+_, _-_, _*_, _/_, _^_, _≤_, _<_}
+use mathlib.Core.Path.{_≡_, refl, sym, _∙_}
+use Prim.Native.Nat.{suc, _-_, _≤_}
 use native.Mathlib.Omega.{arith}
-use borrow.Author.Tests.{eq-eqb, ne-eqb, lt-ltb, le-ltb, not-true, not-false}
 use lib.ListN.{length, drop}
 use Rattle.rules.specs.Limits.{lastCode}
 use Rattle.text.proofs.Readings.{reads-ok, reads-no}

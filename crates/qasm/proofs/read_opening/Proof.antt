@@ -1,5 +1,4 @@
 -- `qasm::read_opening` meets its contract.
-use native.Mathlib.Omega.{arith}
 use Rattle.qasm.proofs.Fronts.{opening-lines, line-five}
 use borrow.Author.Needs.{needs}
 use Rattle.qasm.proofs.read_opening.Statement.{statement}

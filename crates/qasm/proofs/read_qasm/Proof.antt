@@ -1,13 +1,10 @@
 -- `qasm::read_qasm` meets its contract.
-use mathlib.Core.Path.{_≡_, refl, sym, ap, _∙_}
-use native.Mathlib.Omega.{arith}
+use mathlib.Core.Path.{_≡_, refl, sym, _∙_}
 use borrow.Author.Tests.{not-true, not-false}
-use mathlib.Core.Bool.{true, false}
 use lib.ListN.{drop}
-use Rattle.spelling.specs.Lines.{bad, good}
+use Rattle.spelling.specs.Lines.{good}
 use Rattle.qasm.specs.Table.{table}
 use Rattle.qasm.specs.Import.{Registers, opening}
-use Rattle.qasm.specs.Contracts.{ReadsBody}
 use Rattle.qasm.proofs.Keeping.{wrong-opening, wrong-line, all-lines}
 use borrow.Author.Needs.{needs}
 use Rattle.qasm.proofs.read_qasm.Statement.{statement}

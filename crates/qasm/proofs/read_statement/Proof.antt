@@ -1,6 +1,4 @@
 -- `qasm::read_statement` meets its contract.
-use mathlib.Core.Path.{_≡_, refl, sym, ap, _∙_}
-use native.Mathlib.Omega.{arith}
 use Rattle.qasm.proofs.Fronts.{reads-right}
 use borrow.Author.Needs.{needs}
 use Rattle.qasm.proofs.read_statement.Statement.{statement}

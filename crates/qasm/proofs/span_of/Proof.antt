@@ -1,5 +1,4 @@
 -- `qasm::span_of` meets its contract: the table is tried as a whole, by computing.
-use native.Mathlib.Omega.{arith}
 use Rattle.qasm.proofs.Spans.{span}
 use borrow.Author.Needs.{needs}
 use Rattle.qasm.proofs.span_of.Statement.{statement}

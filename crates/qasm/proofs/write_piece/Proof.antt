@@ -1,17 +1,16 @@
 -- `qasm::write_piece` meets its contract.
-use mathlib.Core.Path.{_≡_, refl, sym, ap, _∙_}
-use Prim.Native.Nat.{ℕ, suc, _+_, _-_, _*_, _/_, _^_, _≤_, _<_}
+use mathlib.Core.Path.{_≡_}
+use Prim.Native.Nat.{_-_}
 use native.Mathlib.Omega.{arith}
-use borrow.Author.Tests.{eq-eqb, ne-eqb, lt-ltb, le-ltb, not-true, not-false}
+use borrow.Author.Tests.{eq-eqb, ne-eqb}
 use mathlib.Core.Bool.{true, false}
 use lib.Dec.{eqb}
 use lib.IntN.{ℤ, pos}
-use lib.ListN.{length, getD}
+use lib.ListN.{getD}
 use mir.Syntax.{w32}
 use mir.Val.{SFits}
 use mir.ValLaws.{toZ-ofZ}
 use Rattle.qasm.specs.Table.{fieldOf}
-use Rattle.qasm.specs.Contracts.{pieceSize}
 use Rattle.qasm.proofs.Pieces.{printed-short, size-self, size-number, prints-self, prints-number}
 use borrow.Author.Needs.{needs}
 use Rattle.qasm.proofs.write_piece.Statement.{statement}

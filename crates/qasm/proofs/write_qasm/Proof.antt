@@ -1,6 +1,6 @@
 -- `qasm::write_qasm` meets its contract: the lines before the gates, and a line for each gate.
 use native.Mathlib.Omega.{arith}
-use Prim.Native.Nat.{ℕ, suc, _+_, _-_, _*_, _/_, _^_, _≤_, _<_}
+use Prim.Native.Nat.{_-_, _*_, _/_}
 use lib.ListN.{length}
 use Rattle.rules.specs.Limits.{width}
 use Rattle.text.proofs.Sizes.{prints-next, prints-both}

@@ -1,16 +1,13 @@
 -- `qasm::write_register` meets its contract.
-use mathlib.Core.Path.{_≡_, refl, sym, ap, _∙_}
-use Prim.Native.Nat.{ℕ, suc, _+_, _-_, _*_, _/_, _^_, _≤_, _<_}
+use mathlib.Core.Path.{refl, sym}
+use Prim.Native.Nat.{_-_}
 use native.Mathlib.Omega.{arith}
-use borrow.Author.Tests.{eq-eqb, ne-eqb, lt-ltb, le-ltb, not-true, not-false}
+use borrow.Author.Tests.{eq-eqb, ne-eqb}
 use lib.IntN.{pos}
-use mathlib.Core.List.{List}
-use lib.ListN.{length}
 use mir.Syntax.{w32}
-use mir.Val.{SFits}
 use mir.ValLaws.{toZ-ofZ}
 use Rattle.text.proofs.Pasting.{pasted-none}
-use Rattle.qasm.specs.Export.{sized, registerText}
+use Rattle.qasm.specs.Export.{registerText}
 use borrow.Author.Needs.{needs}
 use Rattle.qasm.proofs.write_register.Statement.{statement}
 use Rattle.qasm.proofs.write_register.Tie as tie

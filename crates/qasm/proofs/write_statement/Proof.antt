@@ -1,18 +1,16 @@
 -- `qasm::write_statement` meets its contract.
-use mathlib.Core.Path.{_≡_, refl, sym, ap, _∙_}
-use Prim.Native.Nat.{ℕ, suc, _+_, _-_, _*_, _/_, _^_, _≤_, _<_}
+use mathlib.Core.Path.{_≡_, sym, ap, _∙_}
+use Prim.Native.Nat.{ℕ, _-_}
 use native.Mathlib.Omega.{arith}
 use lib.IntN.{ℤ, pos}
 use mathlib.Core.List.{List}
 use lib.ListN.{length, getD, take, drop}
 use mir.Syntax.{w32}
-use mir.Val.{SFits}
 use mir.ValLaws.{toZ-ofZ}
 use Rattle.rules.specs.Numbers.{natOf}
 use Rattle.text.proofs.Pasting.{pasted-none}
 use Rattle.qasm.specs.Table.{table, template}
 use Rattle.qasm.specs.Statement.{spellBy, statementText}
-use Rattle.qasm.specs.Contracts.{templateSize}
 use Rattle.qasm.proofs.Codes.{beyond, fine}
 use borrow.Author.Needs.{needs}
 use Rattle.qasm.proofs.write_statement.Statement.{statement}
