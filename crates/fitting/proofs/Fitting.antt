@@ -14,7 +14,7 @@ use Rattle.rules.specs.Scan.{Result}
 use Rattle.rules.specs.Pass as Pass
 use Rattle.rules.specs.Pass.{pass, counts, over}
 use Rattle.rules.proofs.Reading.{length-numbers, gates-length}
-use Rattle.rules.proofs.Accepting.{placeOf, verdict-place}
+use Rattle.rules.proofs.Accepting.{placeOf}
 use Rattle.cnot_min.specs.Minimizing.{told, counted, Minimizes}
 use Rattle.cnot_min.specs.declared.Answer.{Answer}
 use Rattle.cnot_min.specs.declared.Answer.the-variants.{Refused, Done}
@@ -22,6 +22,7 @@ use Rattle.spelling.specs.Sizes.{listGates}
 use Rattle.spelling.specs.Texts.{Head}
 use Rattle.saying.specs.Answer.{exact}
 use Rattle.saying.specs.Contracts.{Few}
+use Rattle.saying.proofs.Checking.{exact-is, exact-place}
 use Rattle.fitting.specs.Contracts.{Fits}
 use Rattle.fitting.proofs.Few.{counts-small}
 
@@ -46,10 +47,6 @@ judged-as : (v : Verdict) (gs : List Gate) (new : Result) (out : List ℤ) (term
 judged-as accepted gs new out terms steps = refl
 judged-as (refused r) gs new out terms steps = refl
 
-exact-is : (h : Head) (l : List ℤ) → exact h l ≡ verdict l (h .wires) (h .bits) (length l) (termWidth * termEntries (length l / width)) (stepWidth * stepEntries (length l / width))
-unfolding exact
-exact-is h l = refl
-
 module _ (h : Head) (l out : List ℤ) (terms steps : List ℕ) (out′ : List ℤ) (terms′ steps′ : List ℕ) (few : Few l)
     (eo : length out ≡ length l) (et : length terms ≡ termWidth * termEntries (length l / width)) (es : length steps ≡ stepWidth * stepEntries (length l / width)) where
   abbrev gs : List Gate
@@ -68,7 +65,7 @@ module _ (h : Head) (l out : List ℤ) (terms steps : List ℕ) (out′ : List �
       let is : refused (record { number = r .number; place = r .place }) ≡ exact h l = ap asVerdict (m .answer ∙ ap (λ (x : Pass.After). x .answer) after-is) ∙ judged-as (exact h l) gs new out terms steps in
       record {
         is = sym is;
-        place = omega (arith, ap placeOf is, ap placeOf (exact-is h l), few .few, verdict-place l (h .wires) (h .bits) (length l) (termWidth * termEntries (length l / width)) (stepWidth * stepEntries (length l / width)));
+        place = omega (arith, ap placeOf is, few .few, exact-place h l);
       }
   fits (Done c) rest m =
       let is : accepted ≡ exact h l = ap asVerdict (m .answer ∙ ap (λ (x : Pass.After). x .answer) after-is) ∙ judged-as (exact h l) gs new out terms steps in

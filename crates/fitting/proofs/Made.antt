@@ -1,5 +1,5 @@
 -- What the pass makes of an accepted list whose numbers fit a text: an accepted list, no longer, whose numbers fit too.
-use mathlib.Core.Path.{_≡_, refl, ap, _∙_}
+use mathlib.Core.Path.{_≡_, refl, ap, _∙_, subst}
 use mathlib.Core.List.{List, [], _∷_}
 use Prim.Native.Nat.{ℕ, zero, suc, _+_, _*_, _/_, _≤_, _<_}
 use native.Mathlib.Omega.{arith}
@@ -13,14 +13,15 @@ use Rattle.rules.specs.Refusal.{accepted, faultAt}
 use Rattle.rules.specs.Plan.{planOf}
 use Rattle.rules.specs.Scan.{Result}
 use Rattle.rules.specs.Pass.{pass, writerOf}
-use Rattle.rules.proofs.Bits.{split}
+use Rattle.rules.proofs.Bits.{split, same}
 use Rattle.rules.proofs.Reading.{length-numbers, gates-length, read-written}
-use Rattle.rules.proofs.Accepting.{Accepted, accepted-is, Fit, fit, SoundAll, accepted-sound}
+use Rattle.rules.proofs.Accepting.{accepted-is, Fit, fit, SoundAll, accepted-sound}
 use Rattle.rules.proofs.Output.{output-length, output-sound, output-accepted, plan-sound}
 use Rattle.text.specs.Reading.{largest}
 use Rattle.spelling.specs.Texts.{Head}
 use Rattle.spelling.proofs.Spelling.{Ranged}
 use Rattle.saying.specs.Answer.{exact}
+use Rattle.saying.proofs.Checking.{exact-fits}
 use Rattle.fitting.proofs.Each.{Each, Plain, each-pass}
 
 -- ---- gate by gate
@@ -34,6 +35,15 @@ each-from P ns (suc n) i h = (h i (omega arith), each-from P ns n (suc i) (λ j 
 pub each-gates : (P : Gate → Type 0) (ns : List ℤ) → ((j : ℕ) → j < length ns / width → P (gateAt ns j)) → Each P (gatesOf ns)
 unfolding gatesOf
 each-gates P ns h = each-from P ns (length ns / width) zero (λ j k. h j (omega arith))
+
+from-each : (P : Gate → Type 0) (ns : List ℤ) (n i : ℕ) → Each P (gatesFrom ns n i) → (j : ℕ) → i ≤ j → j < i + n → P (gateAt ns j)
+unfolding Each gatesFrom
+from-each P ns zero i e j h k = absurd (omega arith)
+from-each P ns (suc n) i e j h k = same i j (λ x q. subst (λ (m : ℕ). P (gateAt ns m)) x (e .0)) (λ x q. from-each P ns n (suc i) (e .1) j (omega (arith, x)) (omega arith))
+
+pub gates-each : (P : Gate → Type 0) (ns : List ℤ) → Each P (gatesOf ns) → (j : ℕ) → j < length ns / width → P (gateAt ns j)
+unfolding gatesOf
+gates-each P ns e j h = from-each P ns (length ns / width) zero e j (omega arith) (omega arith)
 
 -- ---- every turn fits 32 signed bits: the pass makes none of its own
 
@@ -84,10 +94,6 @@ module _ (h : Head) (ns : List ℤ) (e : exact h ns ≡ accepted) where
   abbrev new : Result
   new = pass (h .qubits) (h .terms) (gatesOf ns)
 
-  pub list-fits : Accepted ns (h .wires) (h .bits) (length ns) (termWidth * termEntries (length ns / width)) (stepWidth * stepEntries (length ns / width))
-  unfolding exact
-  list-fits = accepted-is ns (h .wires) (h .bits) (length ns) (termWidth * termEntries (length ns / width)) (stepWidth * stepEntries (length ns / width)) e
-
   made-sound : SoundAll (h .wires) (h .bits) (new .gates)
   unfolding exact pass
   made-sound =
@@ -108,7 +114,7 @@ module _ (h : Head) (ns : List ℤ) (e : exact h ns ≡ accepted) where
 
   pub made-ranged : Ranged ns → Ranged (numbersOf (new .gates))
   made-ranged r =
-      ranged-numbers (h .wires) (h .bits) (new .gates) (list-fits .wires) (list-fits .bits) made-sound
+      ranged-numbers (h .wires) (h .bits) (new .gates) (exact-fits h ns e .wires) (exact-fits h ns e .bits) made-sound
       (each-pass Short short-plain (h .qubits) (h .terms) (gatesOf ns) (short-gates ns r))
 
   pub same-result : record { gates = gatesOf (numbersOf (new .gates)); blocks = new .blocks; replaced = new .replaced } ≡ new

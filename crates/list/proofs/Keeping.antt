@@ -6,8 +6,7 @@ use Prim.Native.Nat.{ℕ, _/_, _≤_}
 use native.Mathlib.Omega.{arith}
 use lib.Dec.{ltb}
 use lib.IntN.{ℤ}
-use lib.ListN.{length, take, drop}
-use lib.Seq.{take-at}
+use lib.ListN.{length}
 use Rattle.rules.specs.Gate.{Gate}
 use Rattle.rules.specs.Numbers.{gatesOf, numbersOf}
 use Rattle.rules.specs.Refusal.{Verdict, accepted, refused}
@@ -23,6 +22,7 @@ use Rattle.spelling.proofs.Spelling.{Listed, read-text, text-read}
 use Rattle.saying.specs.Answer.{exact, judged, checked, readAs, answerBy}
 use Rattle.saying.specs.Contracts.{Says}
 use Rattle.saying.specs.declared.Said.{Said}
+use Rattle.saying.proofs.Saying.{says-shown}
 use Rattle.fitting.proofs.Made.{made-few, made-ranged, same-result}
 use Rattle.list.specs.Answer.{shortened, answer}
 use Rattle.list.specs.Contracts.{Kept, Lists}
@@ -86,9 +86,4 @@ answer-kept text f =
     (λ e. rw e (read-kept text (readText listGates text) refl (rw e at f)))
 
 pub lists : (text room : List ℕ) (r : Said) (room′ : List ℕ) → Says (answer text) room r room′ → Lists text room r room′
-lists text room r room′ s = record {
-  says = s;
-  kept = λ e.
-      let shown : take (r .length) room′ ≡ answer text .text = rw (s .text) (take-at (answer text .text) (drop (length (answer text .text)) room) (r .length) (sym (s .size))) in
-      rw shown (answer-kept text (sym (s .refused) ∙ e));
-}
+lists text room r room′ s = record { says = s; kept = λ e. rw (says-shown _ room r room′ s) (answer-kept text (sym (s .refused) ∙ e)) }

@@ -1,3 +1,4 @@
-mod Places
+pub mod Places
 mod Taking
+pub mod Checking
 pub mod Saying

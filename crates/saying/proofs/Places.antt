@@ -14,11 +14,11 @@ use Rattle.spelling.specs.Texts.{Head, gatesWord}
 use Rattle.spelling.specs.Reading.{headLine, headAt, row, Rows, rows, Front, wrong, large, list, Read, malformed, many, read, gathered, counted, headed, listAt, ending, readText}
 
 -- the number of the wrong line, or of the next one
-abbrev number : {A : Type 0} → Lines A → ℕ
+abbrev pub number : {A : Type 0} → Lines A → ℕ
 number (bad k) = k
 number (good v k left) = k
 
-line-number : {A B : Type 0} (k m : ℕ) (o : Found A) (next : A → ℕ → List ℕ → Lines B) → k ≤ m
+pub line-number : {A B : Type 0} (k m : ℕ) (o : Found A) (next : A → ℕ → List ℕ → Lines B) → k ≤ m
     → ((v : A) (left : List ℕ) → number (next v (suc k) left) ≤ m) → number (line k o next) ≤ m
 line-number k m none next h f = h
 line-number k m (found v left) next h f = f v left

@@ -44,7 +44,8 @@ enum-known-line-2 : tie.Need-enum-known-line-2
 enum-known-line-2 c = search needs
 
 cast-refuse-2 : tie.Need-cast-refuse-2
-cast-refuse-2 c = let s = c .before .before .before .before .before .before .before .before .before .before in record { fits = omega (arith, ap lineOf (large (c .before .before)), text-line listGates (s .args .text .now)) }
+cast-refuse-2 c =
+    let s = c .before .before .before .before .before .before .before .before .before .before in record { fits = omega (arith, ap lineOf (large (c .before .before)), text-line listGates (s .args .text .now)) }
 
 refuse-requires-3 : tie.Need-refuse-requires-3
 refuse-requires-3 c κs = search needs

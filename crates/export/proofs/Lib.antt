@@ -1,0 +1,2 @@
+mod Answering
+pub mod Keeping

@@ -1,0 +1,3 @@
+-- What export answers to every text, and what the functions that answer say.
+pub mod Answer
+pub mod Contracts

@@ -1,0 +1,3 @@
+mod Lines
+mod Taking
+pub mod Keeping
