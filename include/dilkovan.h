@@ -1,25 +1,26 @@
 /* Dilkovan: circuits shortened, proved to be the same operator. Link with target/staticlib/libdilkovan.a, which
- * `rt staticlib dilkovan` proves and builds for x86-64. examples/c and examples/rust call both functions.
+ * `rt staticlib dilkovan` proves and builds for x86-64. examples/c and examples/rust call it.
  *
- * Neither function allocates, fails or keeps anything between calls; any numbers and any bytes may be given, and what can't be taken is
+ * No function allocates, fails or keeps anything between calls; any numbers and any bytes may be given, and what can't be taken is
  * refused. What is said below of answers and rooms is proved for every input (docs/PROMISES.md). The caller sees to what no
  * proof of the library can: each pointer is aligned, not null (not even for 0 numbers) and leads to as many numbers as stand beside it, and no
  * two of the rooms, and no room and the list or text, overlap.
  *
  * Refusals, by number (README.md has the codes of the gates and the grammar of a text):
  *
- *   dilkovan_cnot_min                                        dilkovan_list
+ *   dilkovan_cnot_min                                        dilkovan_list and dilkovan_export
  *   1  the list's length is no multiple of DILKOVAN_WIDTH     3, 6 to 9  as on the left
  *   2  more than 8,192 gates                                  10  a text above 16,384 bytes
  *   3  more than 1,024 wires or classical bits                11  a malformed, missing or surplus line
  *   4  `out` is shorter than the list                         12  more than 512 gates
- *   5  `terms` or `steps` is too short
- *   6  a code outside 1 to 27
- *   7  an unused field isn't 0
- *   8  a wire or bit out of range
- *   9  the same wire twice in one gate
+ *   5  `terms` or `steps` is too short                        13  (export) a gate that OpenQASM 2.0's text doesn't spell here
+ *   6  a code outside 1 to 27                                 dilkovan_import and dilkovan_qasm
+ *   7  an unused field isn't 0                                10  a text above 16,384 bytes
+ *   8  a wire or bit out of range                             13  a wrong or missing line
+ *   9  the same wire twice in one gate                        12  more than 512 gates; 3  as on the left
  *
- * The place is the gate's index from 0 for 6 to 9, the line's number from 1 for 11 and 12, and else 0. */
+ * The place is the gate's index from 0 for 6 to 9 and export's 13, the line's number from 1 for 11, 12 of a list and 13 of a laboratory's text, and
+ * else 0. */
 #ifndef DILKOVAN_H
 #define DILKOVAN_H
 
@@ -50,7 +51,7 @@ uint64_t dilkovan_cnot_min(const int32_t *list, size_t list_length, size_t wires
                            int32_t *out, size_t out_length, uint64_t *terms, size_t terms_length, uint32_t *steps,
                            size_t steps_length, uint64_t counts[8]);
 
-/* The bytes that `out` of dilkovan_list must have: the longest answer fits. */
+/* The bytes that `out` of the functions below must have: the longest answer fits. */
 #define DILKOVAN_LIST_BYTES 32768
 
 /* Shortens the circuit of a list's text, as `./dilkovan list` does.
@@ -59,6 +60,12 @@ uint64_t dilkovan_cnot_min(const int32_t *list, size_t list_length, size_t wires
  * no 0 behind them: the head, the new gates and the counts; or one line, "refused NUMBER PLACE". The rest of `out` is not written, nor is
  * the text. Its own tables are on the stack: 80,040 bytes was the deepest measured. */
 uint64_t dilkovan_list(const uint8_t *text, size_t text_length, uint8_t out[DILKOVAN_LIST_BYTES], size_t *length);
+
+/* A laboratory's text, OpenQASM 2.0, as a list's text with the caps 128 and 512 and no counts; a list's text as a laboratory's; and a laboratory's text
+ * with its circuit shortened at those caps. `out`, *length and the answer are those of dilkovan_list. */
+uint64_t dilkovan_import(const uint8_t *text, size_t text_length, uint8_t out[DILKOVAN_LIST_BYTES], size_t *length);
+uint64_t dilkovan_export(const uint8_t *text, size_t text_length, uint8_t out[DILKOVAN_LIST_BYTES], size_t *length);
+uint64_t dilkovan_qasm(const uint8_t *text, size_t text_length, uint8_t out[DILKOVAN_LIST_BYTES], size_t *length);
 
 #ifdef __cplusplus
 }

@@ -249,3 +249,40 @@ def wanted(program, texts):
         except Refused as told:
             out.append(refused(*told.args))
     return out
+
+
+# ---- texts as `texts_main` takes and gives them, and the examples of the decided readings
+
+KINDS = ["list", "import", "export", "qasm"]
+
+
+def packed(text):
+    return struct.pack("<I", len(text)) + text
+
+
+def replies(program, kind, texts):
+    """What `texts_main`, or a program like it, prints for texts of a kind."""
+    sent = b"".join(struct.pack("<I", KINDS.index(kind)) + packed(t) for t in texts)
+    said = subprocess.run([program], input=sent, stdout=subprocess.PIPE, check=True).stdout
+    at, out = 0, []
+    while at < len(said):
+        (n,) = struct.unpack_from("<I", said, at)
+        out.append(said[at + 4 : at + 4 + n])
+        at += 4 + n
+    return out
+
+
+def unfolded(text):
+    """`|` is LF, \\r and \\xNN are bytes, {..}*N is N times."""
+    text = re.sub(r"\{(.*?)\}\*(\d+)", lambda m: m[1] * int(m[2]), text)
+    text = re.sub(r"\\x([0-9a-f]{2})", lambda m: chr(int(m[1], 16)), text.replace("|", "\n").replace("\\r", "\r"))
+    return text.encode("latin-1")
+
+
+def readings():
+    """The program, the text, and what it prints, of each line of oracle/readings."""
+    with open(os.path.join(os.path.dirname(os.path.abspath(__file__)), "readings"), encoding="ascii") as f:
+        for line in f:
+            if not line.startswith("#"):
+                program, text, printed = line.rstrip("\n").split("\t\t")
+                yield program, unfolded(text), unfolded(printed)

@@ -1,4 +1,4 @@
-/* Calls both doors of the library with exact, short and longer rooms, and looks at every byte of every room afterwards.
+/* Calls every door of the library with exact, short and longer rooms, and looks at every byte of every room afterwards.
  *
  * Every case is called twice: with rooms that stand between two guards, so that a byte written outside shows in what is compared; and with rooms
  * that are blocks of their own, so that valgrind sees a byte read or written outside. */
@@ -231,11 +231,13 @@ static void large(int32_t *list) {
 
 /* ---- texts */
 
-static void text(const char *name, const char *bytes, size_t size, uint64_t refused, const char *printed) {
+typedef uint64_t (*Door)(const uint8_t *, size_t, uint8_t[DILKOVAN_LIST_BYTES], size_t *);
+
+static void call(Door door, const char *name, const char *bytes, size_t size, uint64_t refused, const char *printed) {
     Room in = lend_filled(bytes, size);
     Room out = lend(DILKOVAN_LIST_BYTES);
     Room length = lend(sizeof(size_t));
-    uint64_t told = dilkovan_list(inside(in), size, inside(out), inside(length));
+    uint64_t told = door(inside(in), size, inside(out), inside(length));
     size_t want = strlen(printed);
     calls++;
     if (told != refused)
@@ -243,6 +245,10 @@ static void text(const char *name, const char *bytes, size_t size, uint64_t refu
     settle(name, "the length", length, &want, sizeof want, 0);
     settle(name, "the printed bytes, or the room behind them", out, printed, want, 0);
     settle(name, "the text", in, bytes, size, 0);
+}
+
+static void text(const char *name, const char *bytes, size_t size, uint64_t refused, const char *printed) {
+    call(dilkovan_list, name, bytes, size, refused, printed);
 }
 
 #define HEAD "head 4\n1024\n0\n128\n512\n"
@@ -285,6 +291,47 @@ static void texts(void) {
     text("10: 16,385 zeros", bytes, LONGEST + 1, 1, "refused 10 0\n");
 }
 
+#define OPENING "OPENQASM 2.0;\ninclude \"qelib1.inc\";\n"
+
+/* A laboratory's text of so many times this line, on one wire. */
+static size_t statements(char *to, const char *line, int gates) {
+    size_t n = (size_t)sprintf(to, OPENING "qreg q[1];\n");
+    for (int i = 0; i < gates; i++)
+        n += (size_t)sprintf(to + n, "%s\n", line);
+    return n;
+}
+
+static void laboratories(void) {
+    static char bytes[2 * DILKOVAN_LIST_BYTES], printed[2 * DILKOVAN_LIST_BYTES];
+    static const char lab[] = OPENING "qreg q[1];\ncreg c[1];\nx q[0];\nt q[0];\nx q[0];\nmeasure q[0] -> c[0];\n";
+    static const char ours[] = "head 4\n1\n1\n128\n512\ngates 4\n1 0 0 0 0\n2 0 0 0 0\n1 0 0 0 0\n27 0 0 0 0\n";
+    call(dilkovan_import, "import", lab, sizeof lab - 1, 0, ours);
+    call(dilkovan_export, "export", ours, sizeof ours - 1, 0, lab);
+    call(dilkovan_qasm, "qasm", lab, sizeof lab - 1, 0, OPENING "qreg q[1];\ncreg c[1];\ntdg q[0];\nmeasure q[0] -> c[0];\n");
+    call(dilkovan_import, "import, without its last byte", lab, sizeof lab - 2, 1, "refused 13 8\n");
+    call(dilkovan_qasm, "qasm, without its last byte", lab, sizeof lab - 2, 1, "refused 13 8\n");
+    call(dilkovan_export, "export, without its last byte", ours, sizeof ours - 2, 1, "refused 11 10\n");
+    call(dilkovan_import, "import, no bytes", lab, 0, 1, "refused 13 1\n");
+    call(dilkovan_export, "export, no bytes", lab, 0, 1, "refused 11 1\n");
+    call(dilkovan_qasm, "qasm, no bytes", lab, 0, 1, "refused 13 1\n");
+    call(dilkovan_export, "export, a swap", "head 4\n2\n0\n1\n1\ngates 2\n1 0 0 0 0\n17 0 1 0 0\n", 45, 1, "refused 13 1\n");
+    /* 512 gates in the longest statements of one number and a turn; 513; and as many bytes as may be, and one more */
+    size_t n = statements(bytes, "rz(-2147483648*pi/4) q[0];", 512), m = repeated(printed, "7 0 0 0 -2147483648", 512);
+    memmove(printed + 9, printed + 12, m - 12 + 1); /* one wire, not 1,024 */
+    printed[7] = '1', printed[8] = '\n';
+    call(dilkovan_import, "import, 512 gates", bytes, n, 0, printed);
+    call(dilkovan_export, "export, 512 gates", printed, m - 3, 0, (bytes[n] = 0, bytes));
+    call(dilkovan_qasm, "qasm, 512 gates that are no turn", bytes, n, 0, OPENING "qreg q[1];\n");
+    n = statements(bytes, "x q[0];", 513);
+    call(dilkovan_import, "import, 513 gates", bytes, n, 1, "refused 12 0\n");
+    call(dilkovan_qasm, "qasm, 513 gates", bytes, n, 1, "refused 12 0\n");
+    memset(bytes, 'x', sizeof bytes);
+    call(dilkovan_import, "import, 16,384 bytes", bytes, LONGEST, 1, "refused 13 1\n");
+    call(dilkovan_import, "import, 16,385 bytes", bytes, LONGEST + 1, 1, "refused 10 0\n");
+    call(dilkovan_export, "export, 16,385 bytes", bytes, LONGEST + 1, 1, "refused 10 0\n");
+    call(dilkovan_qasm, "qasm, 16,385 bytes", bytes, LONGEST + 1, 1, "refused 10 0\n");
+}
+
 int main(void) {
     int32_t *list = malloc(DILKOVAN_WIDTH * MOST * sizeof *list);
     if (!list)
@@ -295,6 +342,7 @@ int main(void) {
         refusals(list);
         large(list);
         texts();
+        laboratories();
     }
     free(list);
     printf("boundary: %zu calls, %zu bytes compared, ok\n", calls, compared);

@@ -1,4 +1,4 @@
-/* Both doors of the library: lists of numbers, then texts. */
+/* The doors of the library: lists of numbers, then our texts and the laboratories'. */
 #include "dilkovan.h"
 #include <inttypes.h>
 #include <stdio.h>
@@ -21,11 +21,13 @@ static void shorten(const int32_t list[DILKOVAN_WIDTH * GATES]) {
         printf("%" PRId32 " %" PRId32 " %" PRId32 " %" PRId32 " %" PRId32 "\n", gate[0], gate[1], gate[2], gate[3], gate[4]);
 }
 
+typedef uint64_t (*Door)(const uint8_t *, size_t, uint8_t[DILKOVAN_LIST_BYTES], size_t *);
+
 /* Prints the answer to a text, and whether it is a refusal. */
-static void answer(const char *text) {
+static void answer(Door door, const char *text) {
     static uint8_t out[DILKOVAN_LIST_BYTES];
     size_t length = 0;
-    uint64_t refused = dilkovan_list((const uint8_t *)text, strlen(text), out, &length);
+    uint64_t refused = door((const uint8_t *)text, strlen(text), out, &length);
     printf("a text %s, %zu bytes:\n", refused ? "refused" : "taken", length);
     fwrite(out, 1, length, stdout);
 }
@@ -36,8 +38,10 @@ int main(void) {
     /* the last gate is on a wire that isn't there */
     shorten((const int32_t[]){1, 0, 0, 0, 0, 2, 0, 0, 0, 0, 1, 1, 0, 0, 0});
     /* two t are one s */
-    answer("head 4\n1\n0\n128\n512\ngates 2\n2 0 0 0 0\n2 0 0 0 0\n");
+    answer(dilkovan_list, "head 4\n1\n0\n128\n512\ngates 2\n2 0 0 0 0\n2 0 0 0 0\n");
     /* the second gate is missing */
-    answer("head 4\n1\n0\n128\n512\ngates 2\n2 0 0 0 0\n");
+    answer(dilkovan_list, "head 4\n1\n0\n128\n512\ngates 2\n2 0 0 0 0\n");
+    /* a laboratory's text, with an x before a t */
+    answer(dilkovan_qasm, "OPENQASM 2.0;\ninclude \"qelib1.inc\";\nqreg q[1];\nx q[0];\nt q[0];\nx q[0];\n");
     return 0;
 }

@@ -1,4 +1,4 @@
-//! Both doors of the library: lists of numbers, then texts.
+//! The doors of the library: lists of numbers, then our texts and the laboratories'.
 
 use std::io::Write;
 
@@ -12,7 +12,10 @@ extern "C" {
         counts: *mut [u64; 8],
     ) -> u64;
     fn dilkovan_list(text: *const u8, text_length: usize, out: *mut [u8; 32768], length: *mut usize) -> u64;
+    fn dilkovan_qasm(text: *const u8, text_length: usize, out: *mut [u8; 32768], length: *mut usize) -> u64;
 }
+
+type Door = unsafe extern "C" fn(*const u8, usize, *mut [u8; 32768], *mut usize) -> u64;
 
 /// The new gates, or the refusal's number and place.
 fn shorten(list: &[i32], wires: usize, bits: usize, qubit_cap: usize, term_cap: usize) -> Result<Vec<i32>, (u32, u32)> {
@@ -33,9 +36,9 @@ fn shorten(list: &[i32], wires: usize, bits: usize, qubit_cap: usize, term_cap: 
 }
 
 /// The printed bytes: an answer, or a refusal's line.
-fn answer(text: &[u8]) -> Result<Vec<u8>, Vec<u8>> {
+fn answer(door: Door, text: &[u8]) -> Result<Vec<u8>, Vec<u8>> {
     let (mut out, mut length) = ([0; 32768], 0);
-    let refused = unsafe { dilkovan_list(text.as_ptr(), text.len(), &mut out, &mut length) };
+    let refused = unsafe { door(text.as_ptr(), text.len(), &mut out, &mut length) };
     let printed = out[..length].to_vec();
     if refused == 0 { Ok(printed) } else { Err(printed) }
 }
@@ -56,14 +59,16 @@ fn main() -> std::io::Result<()> {
             Err((number, place)) => println!("refused {number} {place}"),
         }
     }
-    let texts = [
+    let texts: [(Door, &str); 3] = [
         // two t are one s
-        "head 4\n1\n0\n128\n512\ngates 2\n2 0 0 0 0\n2 0 0 0 0\n",
+        (dilkovan_list, "head 4\n1\n0\n128\n512\ngates 2\n2 0 0 0 0\n2 0 0 0 0\n"),
         // the second gate is missing
-        "head 4\n1\n0\n128\n512\ngates 2\n2 0 0 0 0\n",
+        (dilkovan_list, "head 4\n1\n0\n128\n512\ngates 2\n2 0 0 0 0\n"),
+        // a laboratory's text, with an x before a t
+        (dilkovan_qasm, "OPENQASM 2.0;\ninclude \"qelib1.inc\";\nqreg q[1];\nx q[0];\nt q[0];\nx q[0];\n"),
     ];
-    for text in texts {
-        let (told, printed) = match answer(text.as_bytes()) {
+    for (door, text) in texts {
+        let (told, printed) = match answer(door, text.as_bytes()) {
             Ok(printed) => ("taken", printed),
             Err(printed) => ("refused", printed),
         };

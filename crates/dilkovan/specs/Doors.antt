@@ -9,8 +9,8 @@ use Rattle.gate.specs.declared.Refusal.{Refusal}
 use Rattle.cnot_min.specs.Minimizing.{told, Minimizes}
 use Rattle.cnot_min.specs.declared.Answer.{Answer}
 use Rattle.cnot_min.specs.declared.Answer.the-variants.{Refused, Done}
-use Rattle.list.specs.Answer.{answer}
-use Rattle.list.specs.Contracts.{Lists}
+use Rattle.saying.specs.Answer as Text
+use Rattle.saying.specs.declared.Said.{Said}
 
 -- 0 where it is done; else the refusal's number * 2^32 + its place
 abbrev pub coded : Paper.Answer → ℕ
@@ -38,9 +38,14 @@ unfoldable pub Placed : Answer → Type 0
 Placed (Refused r) = r .place < 2 ^ 32
 Placed (Done c) = Unit {0}
 
--- the answer to a text: 0, or 1 for a refusal; the room begins with its bytes, as many as `size` says, and the rest is untouched
-pub record ExportsText (text room : List ℕ) (r : ℕ) (room′ : List ℕ) (size : ℕ) : Type 0 where
+-- what is said of a text, the room before, how much was printed, and the room after
+abbrev pub Promises : Type 1
+Promises = List ℕ → List ℕ → Said → List ℕ → Type 0
+
+-- the answer to a text, by a program's definition and promise: 0, or 1 for a refusal; the room begins with its bytes, as many as `size` says, and the
+-- rest is untouched
+pub record ExportsText (answer : List ℕ → Text.Answer) (Says : Promises) (text room : List ℕ) (r : ℕ) (room′ : List ℕ) (size : ℕ) : Type 0 where
   -- wrong: a refusal told as an answer
   pub number : r ≡ cond (answer text .refused) 1 0
-  -- all that `list` says. Wrong: another length; a byte written behind the answer
-  pub lists : Lists text room (record { length = size; refused = answer text .refused }) room′
+  -- all that the program says. Wrong: another length; a byte written behind the answer
+  pub says : Says text room (record { length = size; refused = answer text .refused }) room′

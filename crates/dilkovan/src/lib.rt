@@ -4,6 +4,14 @@ use cnot_min::Counts;
 ghost use mathlib.Core.Bool.{cond};
 ghost use mathlib.Core.Path.{_≡_};
 ghost use Rattle.cnot_min.specs.Minimizing.{told, counted};
+ghost use Rattle.list.specs.Answer as List;
+ghost use Rattle.list.specs.Contracts.{Lists};
+ghost use Rattle.import.specs.Answer as Import;
+ghost use Rattle.import.specs.Contracts.{Imports};
+ghost use Rattle.export.specs.Answer as Export;
+ghost use Rattle.export.specs.Contracts as Exported;
+ghost use Rattle.shorten.specs.Answer as Shorten;
+ghost use Rattle.shorten.specs.Contracts.{Shortens};
 ghost use Rattle.dilkovan.specs.Doors.{coded, listed, Exports, ExportsText, Placed};
 
 // 0 where it is done; else the refusal's number * 2^32 + its place.
@@ -66,9 +74,39 @@ fn flag(b: bool) -> u64
 // `list::list`: 0 an answer, 1 a refusal. Its bytes begin `out`, and `length` says how many they are.
 #[no_mangle]
 pub extern "C" fn dilkovan_list(text: &[u8], out: &mut [u8; 32768], length: &mut usize) -> u64
-    ensures { λ r. ⌜ ExportsText (now (text .entry)) (now (out .entry)) r (now (out .exit)) (now (length .exit)) ⌝ }
+    ensures { λ r. ⌜ ExportsText List.answer Lists (now (text .entry)) (now (out .entry)) r (now (out .exit)) (now (length .exit)) ⌝ }
 {
     let a = list::list(text, out);
     *length = a.length;
     flag(a.refused)
+}
+
+// `import::import`, in the same way.
+#[no_mangle]
+pub extern "C" fn dilkovan_import(text: &[u8], out: &mut [u8; 32768], length: &mut usize) -> u64
+    ensures { λ r. ⌜ ExportsText Import.answer Imports (now (text .entry)) (now (out .entry)) r (now (out .exit)) (now (length .exit)) ⌝ }
+{
+    let i = import::import(text, out);
+    *length = i.length;
+    flag(i.refused)
+}
+
+// `export::export`.
+#[no_mangle]
+pub extern "C" fn dilkovan_export(text: &[u8], out: &mut [u8; 32768], length: &mut usize) -> u64
+    ensures { λ r. ⌜ ExportsText Export.answer Exported.Exports (now (text .entry)) (now (out .entry)) r (now (out .exit)) (now (length .exit)) ⌝ }
+{
+    let e = export::export(text, out);
+    *length = e.length;
+    flag(e.refused)
+}
+
+// `shorten::shorten`.
+#[no_mangle]
+pub extern "C" fn dilkovan_qasm(text: &[u8], out: &mut [u8; 32768], length: &mut usize) -> u64
+    ensures { λ r. ⌜ ExportsText Shorten.answer Shortens (now (text .entry)) (now (out .entry)) r (now (out .exit)) (now (length .exit)) ⌝ }
+{
+    let s = shorten::shorten(text, out);
+    *length = s.length;
+    flag(s.refused)
 }

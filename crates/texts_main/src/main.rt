@@ -1,5 +1,5 @@
-// Reads texts, each as a little-endian number of 32 bits, its length, and its bytes; and writes what the list program prints for each in the
-// same form. It stops where the input ends.
+// Reads texts, each as two little-endian numbers of 32 bits, its kind and its length, and its bytes; and writes what the program of that kind
+// prints for each, as its length and its bytes. The kinds: 0 list, 1 import, 2 export, 3 qasm. It stops where the input ends.
 use libc::STDIN_FILENO;
 use libc::STDOUT_FILENO;
 use spelling::ANSWER_BYTES;
@@ -71,14 +71,28 @@ fn put(bytes: &[u8], buffer: &mut [u8], at: usize)
     }
 }
 
+// What the program of a kind prints: how many bytes. A number that is no kind is taken for the last.
+fn said(kind: u32, text: &[u8], out: &mut [u8; ANSWER_BYTES]) -> usize
+    ensures { λ r. ⌜ (r ≤ length (now (out .entry))) × (r ≤ length (now (out .exit))) ⌝ }
+{
+    if kind == 0 {
+        list::list(text, out).length
+    } else if kind == 1 {
+        import::import(text, out).length
+    } else if kind == 2 {
+        export::export(text, out).length
+    } else {
+        shorten::shorten(text, out).length
+    }
+}
+
 // The answer to a text goes behind what waits.
-fn answer(text: &[u8], buffer: &mut [u8], used: usize) -> usize
+fn answer(kind: u32, text: &[u8], buffer: &mut [u8], used: usize) -> usize
     requires { ⌜ (used ≤ length (now buffer)) × (answerBytes + 4 ≤ length (now buffer)) ⌝ }
     ensures { λ r. ⌜ r ≤ length (now (buffer .exit)) ⌝ }
 {
     let mut out = [0u8; ANSWER_BYTES];
-    let r = list::list(text, &mut out);
-    let n = r.length;
+    let n = said(kind, text, &mut out);
     let at = spare(&*buffer, used, n + 4);
     let head = [(n % 256) as u8, (n / 256 % 256) as u8, 0, 0];
     put(&head, &mut *buffer, at);
@@ -91,11 +105,12 @@ fn next(buffer: &mut [u8], used: usize) -> Step
     requires { ⌜ (used ≤ length (now buffer)) × (answerBytes + 4 ≤ length (now buffer)) ⌝ }
     ensures { λ r. ⌜ r .used ≤ length (now (buffer .exit)) ⌝ }
 {
-    let mut head = [0u8; 4];
-    if !fill(&mut head, 4) {
+    let mut head = [0u8; 8];
+    if !fill(&mut head, 8) {
         return Step { more: false, used };
     }
-    let n = joined(head[0], head[1], head[2], head[3]) as usize;
+    let kind = joined(head[0], head[1], head[2], head[3]);
+    let n = joined(head[4], head[5], head[6], head[7]) as usize;
     let k = least(n, MOST);
     let mut text = [0u8; MOST];
     if !fill(&mut text, k) {
@@ -106,7 +121,7 @@ fn next(buffer: &mut [u8], used: usize) -> Step
     }
     Step {
         more: true,
-        used: answer(&text[..k], buffer, used),
+        used: answer(kind, &text[..k], buffer, used),
     }
 }
 

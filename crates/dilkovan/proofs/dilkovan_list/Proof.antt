@@ -15,10 +15,10 @@ flag-requires c κs = search needs
 returns : tie.Need-returns
 returns c =
     let m = (c .before) .list .ensures in
-    let flagged : c .flag .result ≡ cond {A = ℕ} ((c .before) .list .result .refused) 1 0 = c .flag .ensures in
+    let told : c .flag .result ≡ cond {A = ℕ} ((c .before) .list .result .refused) 1 0 = c .flag .ensures in
     record {
-      number = flagged ∙ ap (λ (b : Bool). cond {A = ℕ} b 1 0) (m .says .refused);
-      lists = record { says = record { text = m .says .text; size = m .says .size; fits = m .says .fits; refused = refl }; kept = λ e. m .kept (m .says .refused ∙ e) };
+      number = told ∙ ap (λ (b : Bool). cond {A = ℕ} b 1 0) (m .says .refused);
+      says = record { says = record { text = m .says .text; size = m .says .size; fits = m .says .fits; refused = refl }; kept = λ e. m .kept (m .says .refused ∙ e) };
     }
 
 pub dilkovan-list-spec : {M : Type 1} → statement M

@@ -2,13 +2,12 @@
 use mathlib.Core.Path.{sym}
 use native.Mathlib.Omega.{arith}
 use lib.Seq.{length-take-le}
-use Rattle.saying.proofs.Saying.{says-fits}
 use borrow.Author.Needs.{needs}
 use Rattle.texts_main.proofs.answer.Statement.{statement}
 use Rattle.texts_main.proofs.answer.Tie as tie
 
-list-requires : tie.Need-list-requires
-list-requires c κs = search needs
+said-requires : tie.Need-said-requires
+said-requires c κs = search needs
 
 add-spare : tie.Need-add-spare
 add-spare c = search needs
@@ -29,16 +28,18 @@ put-requires : tie.Need-put-requires
 put-requires c κs = search needs
 
 array-share-prefix-out : tie.Need-array-share-prefix-out
-array-share-prefix-out c = says-fits _ _ _ _ ((c .before .before .before .before .before .before .before) .list .ensures .says)
+array-share-prefix-out c = c .before .before .before .before .before .before .before .said .ensures .1
 
 slice-aggregate-put-2 : tie.Need-slice-aggregate-put-2
-slice-aggregate-put-2 c = sym (length-take-le _ _ (says-fits _ _ _ _ ((c .before .before .before .before .before .before .before .before) .list .ensures .says)))
+slice-aggregate-put-2 c = sym (length-take-le _ _ (c .before .before .before .before .before .before .before .before .said .ensures .1))
 
 add-put : tie.Need-add-put
 add-put c = search needs
 
 put-requires-2 : tie.Need-put-requires-2
-put-requires-2 c κs = omega (arith, (c .before .before .before .before .before .before .before) .spare .ensures, (c .before .before .before .before) .put .kept .1 .0, length-take-le ((c .before .before .before .before .before .before .before .before .before) .list .result .length) ((c .before .before .before .before .before .before .before .before .before) .list .last .1 .0) (says-fits _ _ _ _ ((c .before .before .before .before .before .before .before .before .before) .list .ensures .says)))
+put-requires-2 c κs =
+    let s = c .before .before .before .before .before .before .before .before .before .said in
+    omega (arith, c .before .before .before .before .before .before .before .spare .ensures, c .before .before .before .before .put .kept .1 .0, length-take-le (s .result) (s .last .1 .1 .0) (s .ensures .1))
 
 add-result : tie.Need-add-result
 add-result c = search needs
@@ -56,7 +57,7 @@ pub answer-spec : {M : Type 1} → statement M
 answer-spec =
     tie.close
     (tie.spec
-    list-requires
+    said-requires
     add-spare
     spare-requires
     cast-t13

@@ -30,6 +30,21 @@ array-read-joined-4 c = search needs
 joined-requires : tie.Need-joined-requires
 joined-requires c κs = search needs
 
+array-read-joined-5 : tie.Need-array-read-joined-5
+array-read-joined-5 c = search needs
+
+array-read-joined-6 : tie.Need-array-read-joined-6
+array-read-joined-6 c = search needs
+
+array-read-joined-7 : tie.Need-array-read-joined-7
+array-read-joined-7 c = search needs
+
+array-read-joined-8 : tie.Need-array-read-joined-8
+array-read-joined-8 c = search needs
+
+joined-requires-2 : tie.Need-joined-requires-2
+joined-requires-2 c κs = search needs
+
 cast-n : tie.Need-cast-n
 cast-n c = search needs
 
@@ -58,7 +73,7 @@ array-share-prefix-text : tie.Need-array-share-prefix-text
 array-share-prefix-text c = search needs
 
 slice-aggregate-answer : tie.Need-slice-aggregate-answer
-slice-aggregate-answer c = sym (length-take-le _ _ (omega (arith, (c .before .before .before .before .before .before .before) .least .ensures .1, (c .before .before .before .before .before) .fill2 .kept .0)))
+slice-aggregate-answer c = sym (length-take-le _ _ (omega (arith, c .before .before .before .before .before .before .before .least .ensures .1, c .before .before .before .before .before .fill2 .kept .0)))
 
 answer-requires : tie.Need-answer-requires
 answer-requires c κs = search needs
@@ -81,6 +96,11 @@ next-spec =
     array-read-joined-3
     array-read-joined-4
     joined-requires
+    array-read-joined-5
+    array-read-joined-6
+    array-read-joined-7
+    array-read-joined-8
+    joined-requires-2
     cast-n
     least-requires
     slice-aggregate-fill-2

@@ -1,0 +1,12 @@
+OPENQASM 2.0;
+include "qelib1.inc";
+qreg q[3];
+creg c[1];
+x q[0];
+t q[0];
+x q[0];
+ccx q[0],q[1],q[2];
+t q[2];
+t q[2];
+measure q[2] -> c[0];
+reset q[2];
