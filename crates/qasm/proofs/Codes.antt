@@ -129,6 +129,9 @@ spelled-most c h =
     (λ e. absurd (false≢true (rw (beyond c (ltb-true lastCode c e)) at h)))
     (λ e. ltb-false lastCode c e)
 
+pub spelled-at : (c : ℕ) → spelled c ≡ true → c < length templates
+spelled-at c h = omega (arith, sized, spelled-most c h)
+
 pub uses-code : (c : ℕ) → spelled c ≡ true → Uses c (template c)
 unfolding spelled
 uses-code c h = uses-of c (template c) (okay-code c (spelled-most c h)) h

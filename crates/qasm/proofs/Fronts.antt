@@ -1,9 +1,8 @@
--- What the reading functions come to, over plain variables: codes one after another, a register, the lines before the gates.
+-- What the reading functions come to, over plain variables: a gate that is right, a register, the lines before the gates.
 use mathlib.Core.Path.{_≡_, refl, sym, _∙_}
 use mathlib.Core.Bool.{Bool, true, false, _&&_, cond}
 use mathlib.Core.List.{List}
 use Prim.Native.Nat.{ℕ, zero, suc, _+_, _-_, _≤_, _<_}
-use native.Mathlib.Numerals.{add-one}
 use native.Mathlib.Omega.{arith}
 use borrow.Author.Tests.{ltb-true, ltb-false, lt-ltb, ne-eqb, eq-eqb}
 use lib.Dec.{eqb, ltb}
@@ -17,30 +16,9 @@ use Rattle.text.specs.Reading.{Found, none, found, onward, word}
 use Rattle.text.specs.Contracts.{reached, Reads}
 use Rattle.text.proofs.Readings.{reads-ok, reads-no}
 use Rattle.spelling.specs.Lines.{bad, good}
-use Rattle.qasm.specs.Statement.{bare, readBy, readAs, readFirst, anyGate, statement}
+use Rattle.qasm.specs.Statement.{bare, readBy, anyGate, statement}
 use Rattle.qasm.specs.Import.{versionLine, includeLine, wiresLine, bitsLine, register, perhaps, opening}
 use Rattle.qasm.specs.Contracts.{ReadsSize, lineAfter}
-
--- ---- the codes, one after another
-
-module _ (n c : ℕ) (bs : List ℕ) where
-  pub first-found : c < n → (row : List ℤ) (left : List ℕ) → readAs c bs ≡ found row left → readFirst (n - c) c bs ≡ found row left
-  unfolding readFirst
-  first-found h row left e =
-      let k : n - c ≡ suc (n - (c + 1)) = omega arith in
-      rw (k, e)
-
-  pub first-more : c < n → readAs c bs ≡ none → readFirst (n - c) c bs ≡ readFirst (n - (c + 1)) (c + 1) bs
-  unfolding readFirst
-  first-more h e =
-      let k : n - c ≡ suc (n - (c + 1)) = omega arith in
-      rw (k, e, add-one c)
-
-  pub first-end : n ≤ c → readFirst (n - c) c bs ≡ none
-  unfolding readFirst
-  first-end h =
-      let k : n - c ≡ 0 = omega arith in
-      rw k
 
 -- ---- a gate that is right
 

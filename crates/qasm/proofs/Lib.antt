@@ -12,5 +12,6 @@ pub mod Short
 pub mod Pieces
 mod Answers
 mod Spans
+mod Guesses
 mod Fronts
 mod Keeping

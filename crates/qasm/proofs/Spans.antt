@@ -1,6 +1,6 @@
 -- Where the spelling of each code stands in the table, by computing; and what a caller learns of it.
 use mathlib.Core.Path.{_≡_, refl, sym, ap, _∙_}
-use mathlib.Core.Bool.{Bool, true, false, _&&_, false≢true}
+use mathlib.Core.Bool.{Bool, true, false, _&&_}
 use mathlib.Core.List.{List, [], _∷_}
 use Prim.Native.Nat.{ℕ, zero, suc, _+_, _-_, _≤_, _<_}
 use native.Mathlib.Numerals.{add-one}
@@ -8,15 +8,13 @@ use native.Mathlib.Omega.{arith}
 use borrow.Author.Tests.{leb-true, ltb-true, ltb-false, lt-ltb, le-ltb}
 use lib.Dec.{leb, ltb}
 use lib.ListN.{length, getD, take, drop, length-take, length-drop}
-use lib.Seq.{getD-take, getD-drop}
 use Rattle.rules.specs.Limits.{lastCode}
 use Rattle.rules.proofs.Bits.{split, and-left, and-right}
-use Rattle.text.specs.Reading.{none, word}
+use Rattle.text.specs.Reading.{none}
 use Rattle.qasm.specs.Table.{table, templates, template, spelled}
 use Rattle.qasm.specs.Statement.{bare, readBy, readAs}
 use Rattle.qasm.specs.Contracts.{Stands}
-use Rattle.qasm.proofs.Templates.{plain, read-self}
-use Rattle.qasm.proofs.Codes.{uses-code, beyond}
+use Rattle.qasm.proofs.Codes.{beyond}
 
 -- the code's constant
 abbrev pub starts : List ℕ
@@ -78,16 +76,11 @@ module _ (c from to : ℕ) (s : Stands c from to) where
       (λ e. rw (span-size, e) (lt-ltb 1 (to - from) (omega (arith, ltb-true (from + 1) to e))))
       (λ e. rw (span-size, e) (le-ltb 1 (to - from) (omega (arith, ltb-false (from + 1) to e))))
 
-  -- its first byte
-  pub span-first : from < to → getD table from 0 ≡ getD (template c) 0 0
-  span-first h =
-      sym (ap (λ (t : List ℕ). getD t 0 0) (sym (s .part)) ∙ getD-take (to - from) (drop from table) 0 0 (omega arith) ∙ getD-drop from table 0 0 ∙ ap (λ (k : ℕ). getD table k 0) (omega arith))
-
 pub beyond-spelled : (c : ℕ) → lastCode < c → spelled c ≡ false
 unfolding spelled
 beyond-spelled c h = rw (beyond c h)
 
--- ---- a gate of a code, by the first byte of its spelling
+-- ---- a gate of a code
 
 pub as-unspelled : (c : ℕ) (bs : List ℕ) → spelled c ≡ false → readAs c bs ≡ none
 unfolding readAs
@@ -96,11 +89,3 @@ as-unspelled c bs e = rw e
 pub as-spelled : (c : ℕ) (bs : List ℕ) → spelled c ≡ true → readAs c bs ≡ readBy (template c) bs (bare c)
 unfolding readAs
 as-spelled c bs e = rw e
-
-pub as-other : (c : ℕ) (bs : List ℕ) → spelled c ≡ true → word (getD (template c) 0 0 ∷ []) bs ≡ none → readAs c bs ≡ none
-unfolding readBy
-as-other c bs e h = as-spelled c bs e ∙ go (template c) (uses-code c e .opens) h
-  where
-    go : (t : List ℕ) → plain t ≡ true → word (getD t 0 0 ∷ []) bs ≡ none → readBy t bs (bare c) ≡ none
-    go [] p h = absurd (false≢true p)
-    go (b ∷ t) p h = rw (read-self b bs (bare c) (and-left _ _ p), h)

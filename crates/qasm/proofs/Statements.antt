@@ -133,7 +133,7 @@ read-first (suc n) c d row rest h g q e =
     (λ i j. rw (i, e))
     (λ i j. rw (as-none c d row rest (omega (arith, i)) q) (read-first n (suc c) d row rest (omega (arith, i)) (omega arith) q e))
 
-first-read : (n c : ℕ) (bs : List ℕ) (row : List ℤ) (left : List ℕ) → readFirst n c bs ≡ found row left → (d : ℕ) × (readAs d bs ≡ found row left)
+pub first-read : (n c : ℕ) (bs : List ℕ) (row : List ℤ) (left : List ℕ) → readFirst n c bs ≡ found row left → (d : ℕ) × (readAs d bs ≡ found row left)
 unfolding readFirst
 first-read zero c bs row left h = absent row left h
 first-read (suc n) c bs row left h = go (readAs c bs) refl (λ e. first-read n (suc c) bs row left e) h
@@ -143,7 +143,7 @@ first-read (suc n) c bs row left h = go (readAs c bs) refl (λ e. first-read n (
     go none e f h = f h
     go (found v rest) e f h = (c, e ∙ h)
 
-as-read : (c : ℕ) (bs : List ℕ) (row : List ℤ) (left : List ℕ) → readAs c bs ≡ found row left → (spelled c ≡ true) × (readBy (template c) bs (bare c) ≡ found row left)
+pub as-read : (c : ℕ) (bs : List ℕ) (row : List ℤ) (left : List ℕ) → readAs c bs ≡ found row left → (spelled c ≡ true) × (readBy (template c) bs (bare c) ≡ found row left)
 unfolding readAs
 as-read c bs row left h = split (spelled c) (λ e. (e, rw e at h)) (λ e. absent row left (rw e at h))
 

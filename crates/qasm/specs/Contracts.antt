@@ -1,8 +1,9 @@
 -- What the crate's functions ask and say.
 use mathlib.Core.Path.{_≡_}
-use mathlib.Core.Bool.{Bool, true, cond}
+use mathlib.Core.Bool.{Bool, true, _||_, cond}
 use mathlib.Core.List.{List, [], _∷_}
 use Prim.Native.Nat.{ℕ, _+_, _-_, _*_, _/_, _^_, _≤_, _<_}
+use Prim.Native.Char.{code}
 use lib.Dec.{eqb, ltb}
 use lib.IntN.{ℤ}
 use lib.ListN.{length, take, drop}
@@ -25,6 +26,21 @@ pub record Stands (c from to : ℕ) : Type 0 where
   pub part : take (to - from) (drop from table) ≡ template c
   pub ordered : from ≤ to
   pub within : to ≤ length table
+
+-- what the first and the second byte of a statement tell of its code: their sum is the only one whose spelling can begin so
+abbrev pub firstPart : ℕ → ℕ
+firstPart b =
+    cond (eqb b (code "x")) 1
+    (cond (eqb b (code "t")) 2
+    (cond (eqb b (code "s")) 4
+    (cond (eqb b (code "z") || eqb b (code "r")) 6
+    (cond (eqb b (code "c")) 8
+    (cond (eqb b (code "h")) 10
+    (cond (eqb b (code "y")) 11
+    (cond (eqb b (code "m")) 20 0)))))))
+
+abbrev pub secondPart : ℕ → ℕ
+secondPart b = cond (eqb b (code "d") || eqb b (code "z")) 1 (cond (eqb b (code "e")) 7 (cond (eqb b (code "c")) 16 0))
 
 -- a register that may be left out: its size is then 0, and the next place is the same
 pub record ReadsSize (text : List ℕ) (meant : Found ℕ) (at size next : ℕ) : Type 0 where

@@ -8,7 +8,7 @@ ghost use mathlib.Core.Bool.{cond};
 ghost use mathlib.Core.List.{[], _∷_};
 ghost use Prim.Native.Nat.{_+_, _-_, _*_, _^_, _/_, _≤_, _<_};
 ghost use lib.Dec.{ltb};
-ghost use lib.ListN.{length, drop};
+ghost use lib.ListN.{length, getD, drop};
 ghost use Rattle.rules.specs.Limits.{width, lastCode};
 ghost use Rattle.text.specs.Bytes.{pasted};
 ghost use Rattle.text.specs.Contracts.{Reads, Prints};
@@ -17,14 +17,14 @@ ghost use Rattle.qasm.specs.Table as Table;
 ghost use Rattle.qasm.specs.Statement as Statement;
 ghost use Rattle.qasm.specs.Import as Import;
 ghost use Rattle.qasm.specs.Export as Export;
-ghost use Rattle.qasm.specs.Contracts.{Stands, ReadsSize, ReadsBody, ReadsQasm, Writable, pieceSize, templateSize, statementSize, registerSize, openingSize, qasmSize, lineAfter, Judges};
+ghost use Rattle.qasm.specs.Contracts.{Stands, firstPart, secondPart, ReadsSize, ReadsBody, ReadsQasm, Writable, pieceSize, templateSize, statementSize, registerSize, openingSize, qasmSize, lineAfter, Judges};
 
 // A line for each code, empty where it isn't spelled. F, S, T and K stand for first, second, third and turn.
 const TABLE: [u8; 180] =
     *b"x q[F];\nt q[F];\ntdg q[F];\ns q[F];\nsdg q[F];\nz q[F];\nrz(K*pi/4) q[F];\ncx q[F],q[S];\ncz q[F],q[S];\nh q[F];\ny q[F];\n\nreset q[F];\n\n\n\n\n\n\n\n\n\n\nccx q[F],q[S],q[T];\n\n\nmeasure q[F] -> c[S];\n";
 
 // Where the line of each code begins, and where the last ends. There is no code 0.
-const STARTS: [usize; 29] = [
+const STARTS: [u8; 29] = [
     0,
     0,
     8,
@@ -103,8 +103,8 @@ fn span_of(code: u32) -> Span
 {
     let c = code as usize;
     Span {
-        from: STARTS[c],
-        to: STARTS[c + 1],
+        from: STARTS[c] as usize,
+        to: STARTS[c + 1] as usize,
     }
 }
 
@@ -191,7 +191,7 @@ fn set_bare(row: &mut [i32], code: u32)
     row[4] = 0;
 }
 
-// A gate of this code. Most fail at their first byte, before the row is made ready.
+// A gate of this code, if it is spelled.
 fn read_as(text: &[u8], at: usize, table: &[u8], code: u32, row: &mut [i32]) -> Place
     requires { ⌜ (at ≤ length (now text)) × (code ≤ lastCode) ⌝ }
     requires { ⌜ now table ≡ Table.table ⌝ }
@@ -207,16 +207,54 @@ fn read_as(text: &[u8], at: usize, table: &[u8], code: u32, row: &mut [i32]) -> 
             next: at,
         };
     }
-    let first = text::read_byte(text, at, table[from]);
-    let opens = first.ok;
-    if !opens {
-        return Place {
-            ok: false,
-            next: at,
-        };
-    }
     set_bare(&mut *row, code);
     read_by(text, at, &table[from..to], row)
+}
+
+// The byte at a place, or 0 behind the text.
+fn byte_at(text: &[u8], i: usize) -> u8
+    ensures { λ r. ⌜ r ≡ getD (now (text .entry)) i 0 ⌝ }
+{
+    if i < text.len() { text[i] } else { 0 }
+}
+
+// What the first and the second byte of a statement tell of its code: their sum is the only one whose spelling can begin so.
+fn first_part(b: u8) -> u32
+    ensures { λ r. ⌜ (r ≡ firstPart b) × (r ≤ 20) ⌝ }
+{
+    if b == b'x' {
+        1
+    } else if b == b't' {
+        2
+    } else if b == b's' {
+        4
+    } else if (b == b'z') | (b == b'r') {
+        6
+    } else if b == b'c' {
+        8
+    } else if b == b'h' {
+        10
+    } else if b == b'y' {
+        11
+    } else if b == b'm' {
+        20
+    } else {
+        0
+    }
+}
+
+fn second_part(b: u8) -> u32
+    ensures { λ r. ⌜ (r ≡ secondPart b) × (r ≤ 16) ⌝ }
+{
+    if (b == b'd') | (b == b'z') {
+        1
+    } else if b == b'e' {
+        7
+    } else if b == b'c' {
+        16
+    } else {
+        0
+    }
 }
 
 // A gate of any code that is spelled.
@@ -226,20 +264,14 @@ fn read_gate(text: &[u8], at: usize, table: &[u8], row: &mut [i32]) -> Place
     requires { ⌜ length (now row) ≡ width ⌝ }
     ensures { λ r. ⌜ Reads (now (text .entry)) (Statement.anyGate (drop at (now (text .entry)))) (r .ok) (now (row .exit)) (r .next) ⌝ }
 {
-    let mut code: u32 = 1;
-    while code <= LAST_CODE {
-        let p = read_as(text, at, table, code, &mut *row);
-        let ok = p.ok;
-        let next = p.next;
-        if ok {
-            return Place { ok: true, next };
-        }
-        code += 1;
+    let code = first_part(byte_at(text, at)) + second_part(byte_at(text, at + 1));
+    if LAST_CODE < code {
+        return Place {
+            ok: false,
+            next: at,
+        };
     }
-    Place {
-        ok: false,
-        next: at,
-    }
+    read_as(text, at, table, code, row)
 }
 
 // A gate that is right on so many wires and bits.

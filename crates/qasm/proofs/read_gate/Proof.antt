@@ -1,75 +1,65 @@
--- `qasm::read_gate` meets its contract: the codes that are left come to what all of them do.
-use mathlib.Core.Path.{_≡_, refl, sym, _∙_}
-use Prim.Native.Nat.{suc, _-_, _≤_}
+-- `qasm::read_gate` meets its contract: the two first bytes tell the code.
+use mathlib.Core.Path.{_≡_, sym}
+use Prim.Native.Nat.{_+_, _-_}
 use native.Mathlib.Omega.{arith}
-use lib.ListN.{length, drop}
-use Rattle.rules.specs.Limits.{lastCode}
-use Rattle.text.proofs.Readings.{reads-ok, reads-no}
-use Rattle.qasm.specs.Statement.{readFirst, anyGate}
-use Rattle.qasm.proofs.Fronts.{first-found, first-more, first-end}
+use lib.ListN.{drop}
+use Rattle.qasm.proofs.Guesses.{guess, any-guess, any-none, guess-at}
+use borrow.Author.Needs.{needs}
 use Rattle.qasm.proofs.read_gate.Statement.{statement}
 use Rattle.qasm.proofs.read_gate.Tie as tie
 
-abbrev Inv-loop : tie.InvT-loop
-Inv-loop text at table row₀ code₀ row code = (1 ≤ code) × (code ≤ suc lastCode) × (length row ≡ length row₀) × (readFirst (suc lastCode - code) code (drop at text) ≡ anyGate (drop at text))
+-- the code is what they tell
+told : (c : tie.After-second-part) → (c .before .before) .first-part .result + c .second-part .result ≡ guess (drop ((c .before .before .before .before .before .before) .args .at) ((c .before .before .before .before .before .before) .args .text .now))
+told c =
+    let s = (c .before .before .before .before .before .before) .args in
+    rw ((c .before .before) .first-part .ensures .0, (c .before .before .before) .byte-at .ensures, c .second-part .ensures .0, (c .before) .byte-at2 .ensures) (sym (guess-at (s .text .now) (s .at)))
 
-abbrev μ-loop : tie.MeasureT-loop
-μ-loop text at table row₀ code₀ row code = suc lastCode - code
+byte-at-requires : tie.Need-byte-at-requires
+byte-at-requires c κs = tt
 
-loop-holds : tie.Need-loop-holds Inv-loop μ-loop
-unfolding anyGate
-loop-holds c = (omega arith, omega arith, refl, refl)
+first-part-requires : tie.Need-first-part-requires
+first-part-requires c κs = tt
 
-read-as-requires : tie.Need-read-as-requires Inv-loop μ-loop
-read-as-requires c κs = let s = (c .before .before .before .before .before) in ((s .pre .0, omega arith), (s .pre .1 .0, (c .before .before) .loop .inv .2 ∙ s .pre .1 .1))
+add-byte-at : tie.Need-add-byte-at
+add-byte-at c = omega (arith, (c .before .before .before .before) .pre .0, (c .before .before .before .before) .good)
 
-same-length : tie.Need-same-length Inv-loop μ-loop
-same-length c = (c .before .before) .read-as .kept .1 .1 .1 .1 .0 ∙ (c .before .before .before .before .before) .loop .inv .2
+byte-at-requires-2 : tie.Need-byte-at-requires-2
+byte-at-requires-2 c κs = tt
 
-returns : tie.Need-returns Inv-loop μ-loop
+second-part-requires : tie.Need-second-part-requires
+second-part-requires c κs = tt
+
+add-code : tie.Need-add-code
+add-code c = omega (arith, (c .before .before) .first-part .ensures .1, c .second-part .ensures .1)
+
+returns : tie.Need-returns
 returns c =
-    let s = (c .before .before .before .before .before .before .before .before) .args in
-    let p = (c .before .before .before .before .before) .loop in
-    let r = (c .before .before) .read-as in
-    record {
-      exact = sym (first-found (suc lastCode) (p .code) (drop (s .at) (s .text .now)) (omega arith) _ _ (reads-ok _ _ _ _ _ (r .ensures) (c .if1 .taken))) ∙ p .inv .3;
-      within = r .ensures .within;
-    }
+    let s = (c .before .before .before .before .before .before .before) .args in
+    record { exact = sym (any-none (drop (s .at) (s .text .now)) (omega (arith, told (c .before), c .if1 .taken))); within = (c .before .before .before .before .before .before .before) .pre .0 }
 
-add-code : tie.Need-add-code Inv-loop μ-loop
-add-code c = omega arith
+read-as-requires : tie.Need-read-as-requires
+read-as-requires c κs = let s = (c .before .before .before .before .before .before .before .before) in ((s .pre .0, (c .before) .if1 .left), (s .pre .1 .0, s .pre .1 .1))
 
-loop-less : tie.Need-loop-less Inv-loop μ-loop
-loop-less c = omega arith
+same-length : tie.Need-same-length
+same-length c = search needs
 
-loop-again : tie.Need-loop-again Inv-loop μ-loop
-loop-again c =
-    let s = (c .before .before .before .before .before .before .before .before) .args in
-    let p = (c .before .before .before .before .before) .loop in
-    let r = (c .before .before) .read-as in
-    (omega arith, omega arith, r .kept .1 .1 .1 .1 .0 ∙ p .inv .2, sym (first-more (suc lastCode) (p .code) (drop (s .at) (s .text .now)) (omega arith) (reads-no _ _ _ _ _ (r .ensures) (c .if1 .left))) ∙ p .inv .3)
-
-same-length-2 : tie.Need-same-length-2 Inv-loop μ-loop
-same-length-2 c = (c .before) .loop .inv .2
-
-returns-2 : tie.Need-returns-2 Inv-loop μ-loop
+returns-2 : tie.Need-returns-2
 returns-2 c =
-    let s = (c .before .before .before .before) .args in
-    let p = (c .before) .loop in
-    record { exact = sym (first-end (suc lastCode) (p .code) (drop (s .at) (s .text .now)) (omega arith)) ∙ p .inv .3; within = (c .before .before .before .before) .pre .0 }
+    let s = (c .before .before .before .before .before .before .before .before .before .before) .args in
+    let few = (c .before .before .before) .if1 .left in
+    rw (any-guess (drop (s .at) (s .text .now)) (rw (told (c .before .before .before .before)) at few)) (rw (told (c .before .before .before .before)) at ((c .before) .read-as .ensures))
 
 pub read-gate-spec : {M : Type 1} → statement M
 read-gate-spec =
     tie.close
     (tie.spec
-    Inv-loop
-    μ-loop
-    loop-holds
+    byte-at-requires
+    first-part-requires
+    add-byte-at
+    byte-at-requires-2
+    second-part-requires
+    add-code
+    returns
     read-as-requires
     same-length
-    returns
-    add-code
-    loop-less
-    loop-again
-    same-length-2
     returns-2)

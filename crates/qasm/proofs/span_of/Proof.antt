@@ -1,26 +1,27 @@
 -- `qasm::span_of` meets its contract: the table is tried as a whole, by computing.
-use Rattle.qasm.proofs.Spans.{span}
+use native.Mathlib.Omega.{arith}
+use Rattle.qasm.proofs.Spans.{table-size, span}
 use borrow.Author.Needs.{needs}
 use Rattle.qasm.proofs.span_of.Statement.{statement}
 use Rattle.qasm.proofs.span_of.Tie as tie
 
-mul-t4 : tie.Need-mul-t4
-mul-t4 c = search needs
+array-read-t6 : tie.Need-array-read-t6
+array-read-t6 c = search needs
 
-array-read-t7 : tie.Need-array-read-t7
-array-read-t7 c = search needs
+cast-t7 : tie.Need-cast-t7
+cast-t7 c = let s = span (c .args .code) (c .pre) in omega (arith, s .ordered, s .within, table-size)
 
 add-t9 : tie.Need-add-t9
 add-t9 c = search needs
 
-mul-t10 : tie.Need-mul-t10
-mul-t10 c = search needs
+array-read-t12 : tie.Need-array-read-t12
+array-read-t12 c = search needs
 
-array-read-t13 : tie.Need-array-read-t13
-array-read-t13 c = search needs
+cast-t13 : tie.Need-cast-t13
+cast-t13 c = let s = span (c .args .code) (c .pre) in omega (arith, s .ordered, s .within, table-size)
 
 returns : tie.Need-returns
 returns c = span (c .args .code) (c .pre)
 
 pub span-of-spec : {M : Type 1} → statement M
-span-of-spec = tie.close (tie.spec mul-t4 array-read-t7 add-t9 mul-t10 array-read-t13 returns)
+span-of-spec = tie.close (tie.spec array-read-t6 cast-t7 add-t9 array-read-t12 cast-t13 returns)
