@@ -42,21 +42,22 @@ uses c t = names 1 t && (agree (names 2 t) (second c || bitted c) && (agree (nam
 abbrev okay : ℕ → List ℕ → Bool
 okay c t = (leb (templateSize t) statementSize && (leb (shortSize t) 31 && sound t)) && (not (written t) || (plain t && uses c t))
 
-checks : ℕ → List (List ℕ) → Bool
-checks c [] = true
-checks c (t ∷ ts) = okay c t && checks (suc c) ts
+-- a test of each code's spelling, from code c on
+unfoldable pub every : (ℕ → List ℕ → Bool) → ℕ → List (List ℕ) → Bool
+every f c [] = true
+every f c (t ∷ ts) = f c t && every f (suc c) ts
 
-tested : checks 0 templates ≡ true
-unfolding checks templates sound names shortSize templateSize fieldOf
-tested = refl
-
-check-at : (c i : ℕ) (ts : List (List ℕ)) → checks c ts ≡ true → i < length ts → okay (c + i) (getD ts i []) ≡ true
-unfolding checks
-check-at c i [] h g = absurd (omega arith)
-check-at c zero (t ∷ ts) h g = rw (add-zero c) (and-left (okay c t) (checks (suc c) ts) h)
-check-at c (suc i) (t ∷ ts) h g =
+pub every-at : (f : ℕ → List ℕ → Bool) (c i : ℕ) (ts : List (List ℕ)) → every f c ts ≡ true → i < length ts → f (c + i) (getD ts i []) ≡ true
+unfolding every
+every-at f c i [] h g = absurd (omega arith)
+every-at f c zero (t ∷ ts) h g = rw (add-zero c) (and-left (f c t) (every f (suc c) ts) h)
+every-at f c (suc i) (t ∷ ts) h g =
     let k : c + suc i ≡ suc c + i = omega arith in
-    rw k (check-at (suc c) i ts (and-right (okay c t) (checks (suc c) ts) h) (omega arith))
+    rw k (every-at f (suc c) i ts (and-right (f c t) (every f (suc c) ts) h) (omega arith))
+
+tested : every okay 0 templates ≡ true
+unfolding every templates sound names shortSize templateSize fieldOf
+tested = refl
 
 -- 0 to 27
 sized : length templates ≡ suc lastCode
@@ -71,7 +72,7 @@ beyond c h =
 
 okay-code : (c : ℕ) → c ≤ lastCode → okay c (template c) ≡ true
 unfolding template
-okay-code c h = rw (zero-add c) at (check-at 0 c templates tested (omega (arith, sized)))
+okay-code c h = rw (zero-add c) at (every-at okay 0 c templates tested (omega (arith, sized)))
 
 -- ---- what it shows
 

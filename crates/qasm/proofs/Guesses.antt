@@ -8,7 +8,7 @@ use native.Mathlib.Omega.{arith}
 use borrow.Author.Tests.{eqb-true}
 use lib.Dec.{eqb}
 use lib.IntN.{ℤ}
-use lib.ListN.{length, getD, drop}
+use lib.ListN.{getD, drop}
 use lib.Seq.{getD-drop}
 use Rattle.rules.specs.Limits.{lastCode}
 use Rattle.rules.proofs.Bits.{same, and-left, and-right}
@@ -18,7 +18,7 @@ use Rattle.qasm.specs.Table.{templates, template, written, spelled, fiel
 use Rattle.qasm.specs.Statement.{bare, readPiece, readBy, readAs, orElse, readFirst, anyGate}
 use Rattle.qasm.specs.Contracts.{firstPart, secondPart}
 use Rattle.qasm.proofs.Templates.{read-self}
-use Rattle.qasm.proofs.Codes.{spelled-most, spelled-at}
+use Rattle.qasm.proofs.Codes.{every, every-at, spelled-most, spelled-at}
 use Rattle.qasm.proofs.Statements.{first-read, as-read}
 
 -- the code that they tell
@@ -33,25 +33,13 @@ tells c [] = true
 tells c (a ∷ []) = true
 tells c (a ∷ b ∷ t) = eqb (fieldOf a) 0 && (eqb (fieldOf b) 0 && eqb (firstPart a + secondPart b) c)
 
-all-tell : ℕ → List (List ℕ) → Bool
-all-tell c [] = true
-all-tell c (t ∷ ts) = tells c t && all-tell (suc c) ts
-
-told : all-tell 0 templates ≡ true
-unfolding all-tell templates fieldOf
+told : every tells 0 templates ≡ true
+unfolding every templates fieldOf
 told = refl
-
-tell-at : (c i : ℕ) (ts : List (List ℕ)) → all-tell c ts ≡ true → i < length ts → tells (c + i) (getD ts i []) ≡ true
-unfolding all-tell
-tell-at c i [] h g = absurd (omega arith)
-tell-at c zero (t ∷ ts) h g = rw (add-zero c) (and-left (tells c t) (all-tell (suc c) ts) h)
-tell-at c (suc i) (t ∷ ts) h g =
-    let k : c + suc i ≡ suc c + i = omega arith in
-    rw k (tell-at (suc c) i ts (and-right (tells c t) (all-tell (suc c) ts) h) (omega arith))
 
 tell-code : (c : ℕ) → spelled c ≡ true → tells c (template c) ≡ true
 unfolding template
-tell-code c h = rw (zero-add c) at (tell-at 0 c templates told (spelled-at c h))
+tell-code c h = rw (zero-add c) at (every-at tells 0 c templates told (spelled-at c h))
 
 -- ---- what is read tells its code
 

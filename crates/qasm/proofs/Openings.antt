@@ -22,7 +22,7 @@ use Rattle.qasm.specs.Import.{versionLine, includeLine, wiresLine, bitsL
 use Rattle.qasm.specs.Export.{sized, registerText, statementsText, openingText}
 use Rattle.qasm.proofs.Templates.{sound, plain, filled, ranged-at, read-self, read-spelled, by-read, apart, apart-none}
 use Rattle.qasm.proofs.Codes.{against, apart-first}
-use Rattle.qasm.proofs.Statements.{codeOf}
+use Rattle.qasm.proofs.Statements.{codeOf, bare-ranged}
 use Rattle.qasm.proofs.Gates.{Each}
 
 -- ---- what is asked of a register's template
@@ -52,10 +52,6 @@ ranged-sized : (n : ℕ) → n ≤ largest → Ranged (sized n)
 unfolding Ranged
 ranged-sized n h = (omega arith, (h, (omega arith, (omega arith, (omega arith, tt)))))
 
-bare-ranged : Ranged (bare 0)
-unfolding Ranged
-bare-ranged = (omega arith, (omega arith, (omega arith, (omega arith, (omega arith, tt)))))
-
 pub read-register : (t : List ℕ) (n : ℕ) (rest : List ℕ) → Sizing t → 1 ≤ n → n ≤ largest → register t (spellBy t (sized n) ++ rest) ≡ found n rest
 unfolding register
 read-register t n rest s h g =
@@ -83,7 +79,7 @@ register-read t bs n left s h =
     let text : bs ≡ cond (eqb m 0) [] (spellBy t (sized m)) ++ rest = rw e (r .text ∙ ap (λ (l : List ℕ). l ++ rest) (s .only row m v)) in
     let is : m ≡ n = cc in
     let end : rest ≡ left = cc in
-    let fits : m ≤ largest = natOf-small (getD row 1 (pos 0)) (ranged-at row 1 (r .each bare-ranged)) in
+    let fits : m ≤ largest = natOf-small (getD row 1 (pos 0)) (ranged-at row 1 (r .each (bare-ranged 0 (omega arith)))) in
     (text ∙ rw (is, end), subst (λ (x : ℕ). x ≤ largest) is fits))
   where
     natOf-small : (v : ℤ) → mag v ≤ largest → natOf v ≤ largest

@@ -1,6 +1,6 @@
 -- How long an exported text is: every list that export takes gives one that import reads.
 use mathlib.Core.Path.{_≡_, refl}
-use mathlib.Core.Bool.{true, false}
+use mathlib.Core.Bool.{true, false, true≢false}
 use mathlib.Core.List.{List, [], _∷_, _++_}
 use Prim.Native.Nat.{ℕ, zero, suc, _+_, _*_, _/_, _≤_, _<_}
 use native.Mathlib.Omega.{arith}
@@ -36,14 +36,11 @@ four : (v : ℤ) (n : ℕ) → pos n ≡ v → n ≤ 1024 → length (printed v)
 unfolding printed
 four v n e h = rw (← e) (decimal-long 3 n (omega arith))
 
-absent : {P : Type 0} → true ≡ false → P
-absent e = let z : _≡_ {A = ℕ} 0 1 = cc in absurd (omega arith)
-
 small-gate : (w b : ℕ) (row : List ℤ) → w ≤ maxWires → b ≤ maxBits → Gated w b row → Small row
 small-gate w b row hw hb g = record { index = at; turn = printed-short (getD row 4 (pos 0)) (record { sfits = omega (arith, ranged-at row 4 (g .each)) }) }
   where
     at : (k : ℕ) → k < width → eqb k 0 ≡ false → eqb k 4 ≡ false → length (printed (getD row k (pos 0))) ≤ 4
-    at zero h e f = absent e
+    at zero h e f = absurd (true≢false e)
     at (suc zero) h e f = four (getD row 1 (pos 0)) (natOf (getD row 1 (pos 0))) (row-signless w b row (g .right) .first) (omega (arith, row-fit w b row (g .right) .first-in))
     at (suc (suc zero)) h e f =
         let c : ℕ = codeOf row in
@@ -57,18 +54,18 @@ small-gate w b row hw hb g = record { index = at; turn = printed-short (getD row
         let n : ℕ = natOf (getD row 3 (pos 0)) in
         let fits : n ≤ 1024 = split (third c) (λ s. omega (arith, r .third-in s)) (λ s. omega (arith, r .no-third s)) in
         four (getD row 3 (pos 0)) n (row-signless w b row (g .right) .third) fits
-    at (suc (suc (suc (suc zero)))) h e f = absent f
+    at (suc (suc (suc (suc zero)))) h e f = absurd (true≢false f)
     at (suc (suc (suc (suc (suc k))))) h e f = absurd (omega arith)
 
 small-size : (n : ℕ) → n ≤ 1024 → Small (sized n)
 small-size n h = record { index = at; turn = omega (arith, four (pos 0) 0 refl (omega arith)) }
   where
     at : (k : ℕ) → k < width → eqb k 0 ≡ false → eqb k 4 ≡ false → length (printed (getD (sized n) k (pos 0))) ≤ 4
-    at zero l e f = absent e
+    at zero l e f = absurd (true≢false e)
     at (suc zero) l e f = four (pos n) n refl h
     at (suc (suc zero)) l e f = four (pos 0) 0 refl (omega arith)
     at (suc (suc (suc zero))) l e f = four (pos 0) 0 refl (omega arith)
-    at (suc (suc (suc (suc zero)))) l e f = absent f
+    at (suc (suc (suc (suc zero)))) l e f = absurd (true≢false f)
     at (suc (suc (suc (suc (suc k))))) l e f = absurd (omega arith)
 
 -- ---- a template

@@ -1,6 +1,6 @@
 -- A statement, both ways: a gate that is right and spelled is read back from its line, and a line that is read is the gate's.
 use mathlib.Core.Path.{_≡_, refl, sym, ap, _∙_, subst}
-use mathlib.Core.Bool.{Bool, true, false, _||_, cond, false≢true}
+use mathlib.Core.Bool.{true, false, _||_, cond, false≢true}
 use mathlib.Core.List.{List, [], _∷_, _++_}
 use Prim.Native.Nat.{ℕ, zero, suc, _+_, _≤_, _<_}
 use native.Mathlib.Omega.{arith}
@@ -20,7 +20,7 @@ use Rattle.text.proofs.Lines.{absent, goes-on}
 use Rattle.spelling.proofs.Spelling.{Ranged}
 use Rattle.qasm.specs.Table.{template, spelled, fieldOf}
 use Rattle.qasm.specs.Statement.{spellBy, readBy, statementText, bare, readAs, orElse, readFirst, anyGate, statement}
-use Rattle.qasm.proofs.Templates.{names, plain, no-code, filled, field-lt, piece-self, read-spelled, by-read, apart-none}
+use Rattle.qasm.proofs.Templates.{either, names, plain, no-code, filled, field-lt, piece-self, read-spelled, by-read, apart-none}
 use Rattle.qasm.proofs.Codes.{fine, Uses, uses-code, spelled-most, apart-codes}
 
 -- ---- the numbers that a template fills in
@@ -71,10 +71,6 @@ module _ (w b : ℕ) (row : List ℤ) (h : faultAt row w b 0 ≡ 0) where
   unfolding faultAt
   row-signless = signless w b (getD row 0 (pos 0)) (getD row 1 (pos 0)) (getD row 2 (pos 0)) (getD row 3 (pos 0)) (getD row 4 (pos 0)) h
 
-neither : (a b : Bool) → (a || b) ≡ false → (a ≡ false) × (b ≡ false)
-neither false b h = (refl, h)
-neither true b h = absurd (false≢true (sym h))
-
 -- what its spelling doesn't name is 0
 filled-is : (w b : ℕ) (row : List ℤ) → Gated w b row → filled (template (codeOf row)) row (bare (codeOf row)) ≡ row
 filled-is w b row g =
@@ -104,7 +100,7 @@ filled-is w b row g =
     at (suc (suc zero)) h =
         split (second c || bitted c)
         (λ e. rw (u .has-second, e))
-        (λ e. let n = neither (second c) (bitted c) e in rw (u .has-second, e) (sym (ap pos (f .no-second (n .0) (n .1))) ∙ s .second))
+        (λ e. let n = either (second c) (bitted c) e in rw (u .has-second, e) (sym (ap pos (f .no-second (n .0) (n .1))) ∙ s .second))
     at (suc (suc (suc zero))) h =
         split (third c)
         (λ e. rw (u .has-third, e))
@@ -159,7 +155,7 @@ read-statement w b row rest g =
     let one : readAs c (spellBy (template c) row ++ rest) ≡ found row rest = rw (g .known) reads in
     rw (read-first lastCode 1 c row rest (f .least) (omega (arith, f .most)) (g .known) one, g .right)
 
-bare-ranged : (c : ℕ) → c ≤ lastCode → Ranged (bare c)
+pub bare-ranged : (c : ℕ) → c ≤ lastCode → Ranged (bare c)
 unfolding Ranged
 bare-ranged c h = (omega arith, (omega arith, (omega arith, (omega arith, (omega arith, tt)))))
 

@@ -70,7 +70,7 @@ ranged-set [] k v h g = tt
 ranged-set (x ∷ vs) zero v h g = (g, h .1)
 ranged-set (x ∷ vs) (suc k) v h g = (h .0, ranged-set vs k v (h .1) g)
 
-either : (a b : Bool) → (a || b) ≡ false → (a ≡ false) × (b ≡ false)
+pub either : (a b : Bool) → (a || b) ≡ false → (a ≡ false) × (b ≡ false)
 either false b h = (refl, h)
 either true b h = absurd (false≢true (sym h))
 

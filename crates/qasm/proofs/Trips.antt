@@ -1,6 +1,6 @@
 -- Round trips: what is exported is imported as it was, and what is imported is exported byte for byte.
 use mathlib.Core.Path.{_≡_, refl, sym, ap, _∙_, subst}
-use mathlib.Core.Bool.{Bool, true, false, _||_, false≢true}
+use mathlib.Core.Bool.{_||_}
 use mathlib.Core.List.{List, [], _++_}
 use Prim.Native.Nat.{ℕ, _+_, _*_, _/_, _≤_, _<_}
 use native.Mathlib.Nat.{zero-add}
@@ -18,6 +18,7 @@ use Rattle.spelling.proofs.Spelling.{Ranged, ranged-take, ranged-drop}
 use Rattle.qasm.specs.Table.{spelled}
 use Rattle.qasm.specs.Import.{wrong, many, large, list, Registers, opening, body, judged, gathered, opened, readQasm}
 use Rattle.qasm.specs.Export.{openingText, statementsText, qasmText, unspelled}
+use Rattle.qasm.proofs.Templates.{either}
 use Rattle.qasm.proofs.Gates.{Each, each-at, at-each, row-fault, row-code, row-size, all-spelled, spelled-all}
 use Rattle.qasm.proofs.Bodies.{statements-some, read-body, body-read}
 use Rattle.qasm.proofs.Openings.{past, read-opening, opening-read}
@@ -72,10 +73,6 @@ record Judged (most : ℕ) (r : Registers) (ms : List ℤ) (w b : ℕ) (ns : Lis
   bits-is : r .bits ≡ b
   numbers : ms ≡ ns
 
-neither : (a b : Bool) → (a || b) ≡ false → (a ≡ false) × (b ≡ false)
-neither false b h = (refl, h)
-neither true b h = absurd (false≢true (sym h))
-
 judged-list : (most : ℕ) (r : Registers) (ms : List ℤ) (w b : ℕ) (ns : List ℤ) → judged most r ms ≡ list w b ns → Judged most r ms w b ns
 judged-list most r ms w b ns h =
     split (ltb most (length ms / width))
@@ -85,7 +82,7 @@ judged-list most r ms w b ns h =
     (λ f. let g : large ≡ list w b ns = rw (e, f) at h in let z : _≡_ {A = ℕ} 0 1 = cc in absurd (omega arith))
     (λ f.
     let g : list (r .wires) (r .bits) ms ≡ list w b ns = rw (e, f) at h in
-    let n = neither (ltb maxWires (r .wires)) (ltb maxBits (r .bits)) f in
+    let n = either (ltb maxWires (r .wires)) (ltb maxBits (r .bits)) f in
     record { few = ltb-false most (length ms / width) e; wires-fit = ltb-false maxWires (r .wires) (n .0); bits-fit = ltb-false maxBits (r .bits) (n .1); wires-is = cc; bits-is = cc; numbers = cc }))
 
 gathered-list : (most : ℕ) (r : Registers) (ms : List ℤ) (o : Lines Unit) (w b : ℕ) (ns : List ℤ) → gathered most r ms o ≡ list w b ns

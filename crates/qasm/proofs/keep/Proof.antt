@@ -83,7 +83,14 @@ returns-2 : tie.Need-returns-2
 returns-2 c =
     let s = (c .before .before .before .before .before .before) in
     let row : List ℤ = s .args .row .now in
-    rw (lt-ltb (s .args .i) (s .args .most) ((c .before .before .before .before .before) .if1 .left), toZ-ofZ w32 (getD row 0 (pos 0)) (record { sfits = (c .before .before .before .before) .numbers .given }), toZ-ofZ w32 (getD row 1 (pos 0)) (record { sfits = (c .before .before .before) .numbers2 .given }), toZ-ofZ w32 (getD row 2 (pos 0)) (record { sfits = (c .before .before) .numbers3 .given }), toZ-ofZ w32 (getD row 3 (pos 0)) (record { sfits = (c .before) .numbers4 .given }), toZ-ofZ w32 (getD row 4 (pos 0)) (record { sfits = c .numbers5 .given }))
+    rw (
+      lt-ltb (s .args .i) (s .args .most) ((c .before .before .before .before .before) .if1 .left),
+      toZ-ofZ w32 (getD row 0 (pos 0)) (record { sfits = (c .before .before .before .before) .numbers .given }),
+      toZ-ofZ w32 (getD row 1 (pos 0)) (record { sfits = (c .before .before .before) .numbers2 .given }),
+      toZ-ofZ w32 (getD row 2 (pos 0)) (record { sfits = (c .before .before) .numbers3 .given }),
+      toZ-ofZ w32 (getD row 3 (pos 0)) (record { sfits = (c .before) .numbers4 .given }),
+      toZ-ofZ w32 (getD row 4 (pos 0)) (record { sfits = c .numbers5 .given }),
+    )
     (row-kept (s .args .numbers .now) (width * s .args .i) row (s .pre .1) (omega (arith, s .pre .0)))
 
 pub keep-spec : {M : Type 1} → statement M
