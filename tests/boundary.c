@@ -305,6 +305,7 @@ static void laboratories(void) {
     static char bytes[2 * DILKOVAN_LIST_BYTES], printed[2 * DILKOVAN_LIST_BYTES];
     static const char lab[] = OPENING "qreg q[1];\ncreg c[1];\nx q[0];\nt q[0];\nx q[0];\nmeasure q[0] -> c[0];\n";
     static const char ours[] = "head 4\n1\n1\n128\n512\ngates 4\n1 0 0 0 0\n2 0 0 0 0\n1 0 0 0 0\n27 0 0 0 0\n";
+    static const char swap[] = "head 4\n2\n0\n1\n1\ngates 2\n1 0 0 0 0\n17 0 1 0 0\n";
     call(dilkovan_import, "import", lab, sizeof lab - 1, 0, ours);
     call(dilkovan_export, "export", ours, sizeof ours - 1, 0, lab);
     call(dilkovan_qasm, "qasm", lab, sizeof lab - 1, 0, OPENING "qreg q[1];\ncreg c[1];\ntdg q[0];\nmeasure q[0] -> c[0];\n");
@@ -314,7 +315,7 @@ static void laboratories(void) {
     call(dilkovan_import, "import, no bytes", lab, 0, 1, "refused 13 1\n");
     call(dilkovan_export, "export, no bytes", lab, 0, 1, "refused 11 1\n");
     call(dilkovan_qasm, "qasm, no bytes", lab, 0, 1, "refused 13 1\n");
-    call(dilkovan_export, "export, a swap", "head 4\n2\n0\n1\n1\ngates 2\n1 0 0 0 0\n17 0 1 0 0\n", 45, 1, "refused 13 1\n");
+    call(dilkovan_export, "export, a swap", swap, sizeof swap - 1, 1, "refused 13 1\n");
     /* 512 gates in the longest statements of one number and a turn; 513; and as many bytes as may be, and one more */
     size_t n = statements(bytes, "rz(-2147483648*pi/4) q[0];", 512), m = repeated(printed, "7 0 0 0 -2147483648", 512);
     memmove(printed + 9, printed + 12, m - 12 + 1); /* one wire, not 1,024 */
