@@ -1,0 +1,65 @@
+//! Times the reading of a laboratory's text beside the reading of our list of the same gates; and import, export and qasm as a whole.
+use std::hint::black_box;
+use std::time::Instant;
+
+type Door = unsafe extern "C" fn(*const u8, usize, *mut [u8; 32768], *mut usize) -> u64;
+
+unsafe extern "C" {
+    fn dilkovan_list(text: *const u8, text_length: usize, out: *mut [u8; 32768], length: *mut usize) -> u64;
+    fn dilkovan_import(text: *const u8, text_length: usize, out: *mut [u8; 32768], length: *mut usize) -> u64;
+    fn dilkovan_export(text: *const u8, text_length: usize, out: *mut [u8; 32768], length: *mut usize) -> u64;
+    fn dilkovan_qasm(text: *const u8, text_length: usize, out: *mut [u8; 32768], length: *mut usize) -> u64;
+}
+
+const GATES: usize = 512;
+
+fn call(door: Door, text: &str) -> (u64, String) {
+    let (mut out, mut length) = ([0; 32768], 0);
+    let refused = unsafe { door(text.as_ptr(), text.len(), &mut out, &mut length) };
+    (refused, String::from_utf8_lossy(&out[..length]).into_owned())
+}
+
+/// Microseconds a call, the median of many.
+fn time(door: Door, text: &str) -> f64 {
+    let (mut out, mut length, mut times) = ([0; 32768], 0, Vec::new());
+    for _ in 0..2000 {
+        let t = Instant::now();
+        black_box(unsafe { door(black_box(text).as_ptr(), text.len(), &mut out, &mut length) });
+        times.push(t.elapsed().as_secs_f64() * 1e6);
+    }
+    times.sort_by(|a, b| a.total_cmp(b));
+    times[times.len() / 2]
+}
+
+/// The statements in turn, on all wires and bits that a list may have.
+fn compare(name: &str, statements: &[&str]) {
+    let mut lab = String::from("OPENQASM 2.0;\ninclude \"qelib1.inc\";\nqreg q[1024];\ncreg c[1024];\n");
+    (0..GATES).for_each(|i| lab += &format!("{}\n", statements[i % statements.len()]));
+    let (refused, ours) = call(dilkovan_import, &lab);
+    assert_eq!(refused, 0, "{name}: {ours}");
+    assert_eq!(call(dilkovan_export, &ours), (0, lab.clone()), "{name}: export is not the text");
+    let wrong = |text: &str| format!("{}\n", &text[..text.len() - 2]);
+    let (their_wrong, our_wrong) = (wrong(&lab), wrong(&ours).replace(" \n", "\n"));
+    assert_eq!(call(dilkovan_import, &their_wrong), (1, format!("refused 13 {}\n", GATES + 4)));
+    assert_eq!(call(dilkovan_list, &our_wrong), (1, format!("refused 11 {}\n", GATES + 6)));
+    let (theirs, listed) = (time(dilkovan_import, &their_wrong), time(dilkovan_list, &our_wrong));
+    println!(
+        "| {name} | {} | {} | {listed:.1} | {theirs:.1} | {:.2} | {:.1} | {:.1} | {:.1} |",
+        ours.len(), lab.len(), theirs / listed, time(dilkovan_import, &lab), time(dilkovan_export, &ours), time(dilkovan_qasm, &lab),
+    );
+}
+
+fn main() {
+    println!("| statements | our bytes | their bytes | list's reading | import's reading | ratio | import | export | qasm |");
+    println!("|---|---|---|---|---|---|---|---|---|");
+    compare("x", &["x q[0];"]);
+    compare("h", &["h q[0];"]);
+    compare("cx, long numbers", &["cx q[1023],q[1022];"]);
+    compare("rz, long turns", &["rz(-2147483648*pi/4) q[1023];"]);
+    compare("measure", &["measure q[1023] -> c[1023];"]);
+    compare("ccx, the longest", &["ccx q[1023],q[1022],q[1021];"]);
+    compare("each in turn", &[
+        "x q[7];", "t q[15];", "tdg q[3];", "s q[1];", "sdg q[2];", "z q[9];", "rz(3*pi/4) q[4];", "cx q[1],q[12];", "cz q[5],q[6];", "h q[0];", "y q[8];", "reset q[7];",
+        "ccx q[0],q[1],q[2];", "measure q[3] -> c[4];",
+    ]);
+}
