@@ -20,6 +20,7 @@ use Rattle.saying.specs.Contracts.{Says}
 use Rattle.saying.specs.declared.Said.{Said}
 use Rattle.saying.proofs.Saying.{says-shown}
 use Rattle.saying.proofs.Checking.{exact-fits}
+use Rattle.saying.proofs.Taking.{answer-kept}
 use Rattle.qasm.specs.Export.{unspelled}
 use Rattle.qasm.proofs.Trips.{Spellable, export-import}
 use Rattle.export.specs.Answer.{translated, answer}
@@ -41,21 +42,9 @@ module _ (text : List ℕ) (h : Head) (ns : List ℤ) (is : readText listGates t
       let k = ltb-false (unspelled ns) (length ns / width) t in
       rw (all-spelled h ns k) (record { head = h; numbers = ns; reads = is; reads-back = export-import listGates (h .wires) (h .bits) ns (spellable e k) }))
 
-  judged-kept : (u : Verdict) → exact h ns ≡ u → judged (translated h ns) u .refused ≡ false → Translated text (judged (translated h ns) u .text)
-  judged-kept (refused r) e f = absurd (true≢false f)
-  judged-kept accepted e f = accepted-kept e f
-
-read-kept : (text : List ℕ) (r : Read) → readText listGates text ≡ r → readAs (checked translated) r .refused ≡ false → Translated text (readAs (checked translated) r .text)
-read-kept text (malformed k) e f = absurd (true≢false f)
-read-kept text (many k) e f = absurd (true≢false f)
-read-kept text (read h ns) e f = judged-kept text h ns e (exact h ns) refl f
-
-answer-kept : (text : List ℕ) → answer text .refused ≡ false → Translated text (answer text .text)
-unfolding answer answerBy
-answer-kept text f =
-    split (ltb listBytes (length text))
-    (λ e. absurd (true≢false (rw e at f)))
-    (λ e. rw e (read-kept text (readText listGates text) refl (rw e at f)))
+text-kept : (text : List ℕ) → answer text .refused ≡ false → Translated text (answer text .text)
+unfolding answer
+text-kept text f = answer-kept (Translated text) translated text (accepted-kept text) f
 
 pub exports : (text room : List ℕ) (r : Said) (room′ : List ℕ) → Says (answer text) room r room′ → Exports text room r room′
-exports text room r room′ s = record { says = s; translated = λ e. rw (says-shown _ room r room′ s) (answer-kept text (sym (s .refused) ∙ e)) }
+exports text room r room′ s = record { says = s; translated = λ e. rw (says-shown _ room r room′ s) (text-kept text (sym (s .refused) ∙ e)) }

@@ -17,6 +17,7 @@ use Rattle.qasm.specs.Import.{Import, wrong, many, large, list, readQasm}
 use Rattle.qasm.proofs.Trips.{Spellable, import-export}
 use Rattle.import.specs.Answer.{headFor, readAs, answerBy, translated, answer}
 use Rattle.import.specs.Contracts.{Translated, Imports}
+use Rattle.import.proofs.Taking.{answer-kept}
 
 spelled-listed : (w b : ℕ) (ns : List ℤ) → Spellable listGates w b ns → Listed listGates (headFor w b) ns
 spelled-listed w b ns s = record {
@@ -36,18 +37,9 @@ list-kept text w b ns e =
     let p = import-export listGates text w b ns e in
     record { wires = w; bits = b; numbers = ns; reads = e; reads-back = read-text listGates (headFor w b) ns (spelled-listed w b ns (p .1)); exports = sym (p .0) }
 
-read-kept : (text : List ℕ) (r : Import) → readQasm listGates text ≡ r → readAs translated r .refused ≡ false → Translated text (readAs translated r .text)
-read-kept text (wrong k) e f = absurd (true≢false f)
-read-kept text many e f = absurd (true≢false f)
-read-kept text large e f = absurd (true≢false f)
-read-kept text (list w b ns) e f = list-kept text w b ns e
-
-answer-kept : (text : List ℕ) → answer text .refused ≡ false → Translated text (answer text .text)
-unfolding answer answerBy
-answer-kept text f =
-    split (ltb listBytes (length text))
-    (λ e. absurd (true≢false (rw e at f)))
-    (λ e. rw e (read-kept text (readQasm listGates text) refl (rw e at f)))
+text-kept : (text : List ℕ) → answer text .refused ≡ false → Translated text (answer text .text)
+unfolding answer
+text-kept text f = answer-kept (Translated text) translated text (list-kept text) f
 
 pub imports : (text room : List ℕ) (r : Said) (room′ : List ℕ) → Says (answer text) room r room′ → Imports text room r room′
-imports text room r room′ s = record { says = s; translated = λ e. rw (says-shown _ room r room′ s) (answer-kept text (sym (s .refused) ∙ e)) }
+imports text room r room′ s = record { says = s; translated = λ e. rw (says-shown _ room r room′ s) (text-kept text (sym (s .refused) ∙ e)) }

@@ -1,3 +1,3 @@
 mod Lines
-mod Taking
+pub mod Taking
 pub mod Keeping

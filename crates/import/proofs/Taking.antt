@@ -1,22 +1,25 @@
 -- From what reading says to the answer.
 use mathlib.Core.Path.{_≡_, refl, sym, ap, subst, _∙_}
+use mathlib.Core.Bool.{true, false, true≢false}
 use mathlib.Core.List.{List}
 use Prim.Native.Nat.{ℕ, _*_, _/_, _≤_, _<_}
 use native.Mathlib.Omega.{arith}
 use borrow.Author.Tests.{le-ltb, lt-ltb}
+use lib.Dec.{ltb}
 use lib.IntN.{ℤ}
 use lib.ListN.{length, take, drop, length-append}
 use lib.Seq.{length-take-le}
 use Rattle.rules.specs.Limits.{width}
+use Rattle.rules.proofs.Bits.{split}
 use Rattle.spelling.specs.Sizes.{listBytes, listGates}
 use Rattle.saying.specs.Answer.{Next, refusal}
-use Rattle.qasm.specs.Import.{Import, list, readQasm}
+use Rattle.qasm.specs.Import.{Import, wrong, many, large, list, readQasm}
 use Rattle.qasm.specs.Contracts as Reads
 use Rattle.qasm.specs.Contracts.{ReadsQasm, met}
 use Rattle.qasm.specs.declared.Imported.{Imported}
 use Rattle.qasm.specs.declared.Imported.the-variants.{Good}
 use Rattle.qasm.proofs.Trips.{import-export}
-use Rattle.import.specs.Answer.{readAs, answerBy}
+use Rattle.import.specs.Answer.{headFor, readAs, answerBy}
 use Rattle.import.specs.Contracts.{Held}
 
 pub answer-long : (next : Next) (text : List ℕ) → listBytes < length text → answerBy next text ≡ refusal 10 0
@@ -41,3 +44,20 @@ held text room room′ r w b n short t e =
       reads = sym is;
       answer = λ next. answer-read next text _ short is;
     }
+
+-- ---- what holds of each answer to a list holds of each answer that is no refusal
+
+module _ (P : List ℕ → Type 0) (next : Next) (text : List ℕ)
+    (kept : (w b : ℕ) (ns : List ℤ) → readQasm listGates text ≡ list w b ns → P (next (headFor w b) ns .text)) where
+  read-kept : (r : Import) → readQasm listGates text ≡ r → readAs next r .refused ≡ false → P (readAs next r .text)
+  read-kept (wrong k) e f = absurd (true≢false f)
+  read-kept many e f = absurd (true≢false f)
+  read-kept large e f = absurd (true≢false f)
+  read-kept (list w b ns) e f = kept w b ns e
+
+  pub answer-kept : answerBy next text .refused ≡ false → P (answerBy next text .text)
+  unfolding answerBy
+  answer-kept f =
+      split (ltb listBytes (length text))
+      (λ e. absurd (true≢false (rw e at f)))
+      (λ e. rw e (read-kept (readQasm listGates text) refl (rw e at f)))

@@ -23,6 +23,7 @@ use Rattle.saying.specs.Answer.{exact, judged, checked, readAs, answerBy}
 use Rattle.saying.specs.Contracts.{Says}
 use Rattle.saying.specs.declared.Said.{Said}
 use Rattle.saying.proofs.Saying.{says-shown}
+use Rattle.saying.proofs.Taking.{answer-kept}
 use Rattle.fitting.proofs.Made.{made-few, made-ranged, same-result}
 use Rattle.list.specs.Answer.{shortened, answer}
 use Rattle.list.specs.Contracts.{Kept, Lists}
@@ -67,23 +68,11 @@ module _ (text : List ℕ) (h : Head) (ns : List ℤ) (is : readText listGates t
     counted = ap (λ (r : Result). counts gs r) (sym (same-result h ns e));
   }
 
-  judged-kept : (u : Verdict) → exact h ns ≡ u → judged (shortened h ns) u .refused ≡ false → Kept text (judged (shortened h ns) u .text)
-  judged-kept (refused r) e f = absurd (true≢false f)
-  judged-kept accepted e f = accepted-kept e
-
 -- ---- a text
 
-read-kept : (text : List ℕ) (r : Read) → readText listGates text ≡ r → readAs (checked shortened) r .refused ≡ false → Kept text (readAs (checked shortened) r .text)
-read-kept text (malformed k) e f = absurd (true≢false f)
-read-kept text (many k) e f = absurd (true≢false f)
-read-kept text (read h ns) e f = judged-kept text h ns e (exact h ns) refl f
-
-pub answer-kept : (text : List ℕ) → answer text .refused ≡ false → Kept text (answer text .text)
-unfolding answer answerBy
-answer-kept text f =
-    split (ltb listBytes (length text))
-    (λ e. absurd (true≢false (rw e at f)))
-    (λ e. rw e (read-kept text (readText listGates text) refl (rw e at f)))
+text-kept : (text : List ℕ) → answer text .refused ≡ false → Kept text (answer text .text)
+unfolding answer
+text-kept text f = answer-kept (Kept text) shortened text (λ h ns is e g. accepted-kept text h ns is e) f
 
 pub lists : (text room : List ℕ) (r : Said) (room′ : List ℕ) → Says (answer text) room r room′ → Lists text room r room′
-lists text room r room′ s = record { says = s; kept = λ e. rw (says-shown _ room r room′ s) (answer-kept text (sym (s .refused) ∙ e)) }
+lists text room r room′ s = record { says = s; kept = λ e. rw (says-shown _ room r room′ s) (text-kept text (sym (s .refused) ∙ e)) }

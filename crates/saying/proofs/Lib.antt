@@ -1,4 +1,4 @@
 pub mod Places
-mod Taking
+pub mod Taking
 pub mod Checking
 pub mod Saying

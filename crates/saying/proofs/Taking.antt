@@ -1,15 +1,20 @@
 -- From what reading says to the answer.
-use mathlib.Core.Path.{_≡_, sym, ap, subst, _∙_}
+use mathlib.Core.Path.{_≡_, refl, sym, ap, subst, _∙_}
+use mathlib.Core.Bool.{true, false, true≢false}
 use mathlib.Core.List.{List}
 use Prim.Native.Nat.{ℕ, _*_, _≤_, _<_}
 use native.Mathlib.Omega.{arith}
 use borrow.Author.Tests.{le-ltb, lt-ltb}
+use lib.Dec.{ltb}
 use lib.IntN.{ℤ}
 use lib.ListN.{length, take, drop, length-append}
 use lib.Seq.{length-take-le}
 use Rattle.rules.specs.Limits.{width}
+use Rattle.rules.specs.Refusal.{Verdict, accepted, refused}
+use Rattle.rules.proofs.Bits.{split}
 use Rattle.spelling.specs.Sizes.{listBytes, listGates}
-use Rattle.spelling.specs.Reading.{Read, read, readText}
+use Rattle.spelling.specs.Texts.{Head}
+use Rattle.spelling.specs.Reading.{Read, malformed, many, read, readText}
 use Rattle.spelling.specs.Heads.{headOf}
 use Rattle.spelling.specs.declared.Head as HeadIs
 use Rattle.spelling.proofs.Spelling.{text-read}
@@ -17,7 +22,7 @@ use Rattle.reading.specs.Contracts as Reads
 use Rattle.reading.specs.Contracts.{ReadsText, met}
 use Rattle.reading.specs.declared.Read as ReadIs
 use Rattle.reading.specs.declared.Read.the-variants.{Good}
-use Rattle.saying.specs.Answer.{Next, refusal, checked, readAs, answerBy}
+use Rattle.saying.specs.Answer.{Next, refusal, exact, judged, checked, readAs, answerBy}
 use Rattle.saying.specs.Contracts.{Held}
 
 pub answer-long : (next : Next) (text : List ℕ) → listBytes < length text → answerBy next text ≡ refusal 10 0
@@ -42,3 +47,23 @@ held text room room′ r h n short t e =
       reads = sym is;
       answer = λ next. answer-read next text _ short is;
     }
+
+-- ---- what holds of each answer to an accepted list holds of each answer that is no refusal
+
+module _ (P : List ℕ → Type 0) (next : Next) (text : List ℕ)
+    (kept : (h : Head) (ns : List ℤ) → readText listGates text ≡ read h ns → exact h ns ≡ accepted → next h ns .refused ≡ false → P (next h ns .text)) where
+  judged-kept : (h : Head) (ns : List ℤ) → readText listGates text ≡ read h ns → (v : Verdict) → exact h ns ≡ v → judged (next h ns) v .refused ≡ false → P (judged (next h ns) v .text)
+  judged-kept h ns e (refused r) x f = absurd (true≢false f)
+  judged-kept h ns e accepted x f = kept h ns e x f
+
+  read-kept : (r : Read) → readText listGates text ≡ r → readAs (checked next) r .refused ≡ false → P (readAs (checked next) r .text)
+  read-kept (malformed k) e f = absurd (true≢false f)
+  read-kept (many k) e f = absurd (true≢false f)
+  read-kept (read h ns) e f = judged-kept h ns e (exact h ns) refl f
+
+  pub answer-kept : answerBy next text .refused ≡ false → P (answerBy next text .text)
+  unfolding answerBy
+  answer-kept f =
+      split (ltb listBytes (length text))
+      (λ e. absurd (true≢false (rw e at f)))
+      (λ e. rw e (read-kept (readText listGates text) refl (rw e at f)))

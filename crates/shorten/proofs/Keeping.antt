@@ -25,6 +25,7 @@ use Rattle.qasm.specs.Import.{Import, wrong, many, large, list, readQasm}
 use Rattle.qasm.specs.Export.{qasmText}
 use Rattle.qasm.proofs.Trips.{import-export, export-import}
 use Rattle.import.specs.Answer.{headFor, readAs, answerBy}
+use Rattle.import.proofs.Taking.{answer-kept}
 use Rattle.shorten.specs.Answer.{shortened, answer}
 use Rattle.shorten.specs.Contracts.{Kept, Shortens}
 use Rattle.shorten.proofs.Spelled.{imported-exact, made-spellable}
@@ -51,18 +52,9 @@ list-kept text w b ns e =
       promised = rw (same-result (headFor w b) ns (imported-exact w b ns s)) (promised 128 512 (gatesOf ns));
     }
 
-read-kept : (text : List ℕ) (r : Import) → readQasm listGates text ≡ r → readAs shortened r .refused ≡ false → Kept text (readAs shortened r .text)
-read-kept text (wrong k) e f = absurd (true≢false f)
-read-kept text many e f = absurd (true≢false f)
-read-kept text large e f = absurd (true≢false f)
-read-kept text (list w b ns) e f = list-kept text w b ns e
-
-answer-kept : (text : List ℕ) → answer text .refused ≡ false → Kept text (answer text .text)
-unfolding answer answerBy
-answer-kept text f =
-    split (ltb listBytes (length text))
-    (λ e. absurd (true≢false (rw e at f)))
-    (λ e. rw e (read-kept text (readQasm listGates text) refl (rw e at f)))
+text-kept : (text : List ℕ) → answer text .refused ≡ false → Kept text (answer text .text)
+unfolding answer
+text-kept text f = answer-kept (Kept text) shortened text (list-kept text) f
 
 pub shortens : (text room : List ℕ) (r : Said) (room′ : List ℕ) → Says (answer text) room r room′ → Shortens text room r room′
-shortens text room r room′ s = record { says = s; kept = λ e. rw (says-shown _ room r room′ s) (answer-kept text (sym (s .refused) ∙ e)) }
+shortens text room r room′ s = record { says = s; kept = λ e. rw (says-shown _ room r room′ s) (text-kept text (sym (s .refused) ∙ e)) }
