@@ -38,8 +38,8 @@ fn compare(name: &str, statements: &[&str]) {
     let (refused, ours) = call(dilkovan_import, &lab);
     assert_eq!(refused, 0, "{name}: {ours}");
     assert_eq!(call(dilkovan_export, &ours), (0, lab.clone()), "{name}: export is not the text");
-    let wrong = |text: &str| format!("{}\n", &text[..text.len() - 2]);
-    let (their_wrong, our_wrong) = (wrong(&lab), wrong(&ours).replace(" \n", "\n"));
+    let wrong = |text: &str| format!("{}x\n", &text[..text.len() - 1]);
+    let (their_wrong, our_wrong) = (wrong(&lab), wrong(&ours));
     assert_eq!(call(dilkovan_import, &their_wrong), (1, format!("refused 13 {}\n", GATES + 4)));
     assert_eq!(call(dilkovan_list, &our_wrong), (1, format!("refused 11 {}\n", GATES + 6)));
     let (theirs, listed) = (time(dilkovan_import, &their_wrong), time(dilkovan_list, &our_wrong));
