@@ -3,7 +3,7 @@
 // the step room have, and the sum of 1, 2 and 4 for those rooms that are looked at wrongly: as if one number more had to be 0), then the list,
 // 32 bits a number. It ends where the input does, or at a list or a room longer than its own.
 // An answer, 32 bits a number: the refusal's number or 0; the sum of 1, 2 and 4 for the output, term and step rooms that are as promised; then the
-// place of a refusal, or the eight counts and the new gates.
+// place and the field of a refusal, or the eight counts and the new gates.
 use cnot_min::Answer;
 use cnot_min::Counts;
 use flow::Flow;
@@ -84,7 +84,7 @@ fn tell_refused(
         marks::terms_right(terms, ask / 2 % 2),
         marks::steps_right(steps, ask / 4 % 2),
     );
-    let told = [r.number as usize, right, r.place];
+    let told = [r.number as usize, right, r.place, r.field as usize];
     flow::put_counts(output, used, &told)
 }
 

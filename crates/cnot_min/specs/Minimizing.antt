@@ -14,6 +14,7 @@ use Rattle.rules.specs.Scan.{Writer, Result, passBy}
 use Rattle.rules.specs.Promise.{Exactly}
 use Rattle.rules.specs.Pass as Paper
 use Rattle.rules.specs.Pass.{writerOf}
+use Rattle.gate.specs.Verdicts.{refusalOf}
 use Rattle.scan.specs.Scanning.{Checked, gatesIn}
 use Rattle.cnot_min.specs.declared.Counts.{Counts}
 use Rattle.cnot_min.specs.declared.Answer.{Answer}
@@ -34,9 +35,9 @@ counted c = record {
   replaced = c .replaced;
 }
 
--- a refusal's number and place, or the eight counts
+-- a refusal's number, place and field, or the eight counts
 abbrev pub told : Answer → Paper.Answer
-told (Refused r) = Paper.refusal (record { number = r .number; place = r .place })
+told (Refused r) = Paper.refusal (refusalOf r)
 told (Done c) = Paper.done (counted c)
 
 -- ---- the promise
@@ -47,7 +48,7 @@ shown c out = record { gates = gatesOf (take (width * c .gatesOut) out); blocks 
 
 -- demands 1, 2 and 3
 pub record Minimizes (l : List ℤ) (wires bits qcap tcap : ℕ) (out : List ℤ) (terms steps : List ℕ) (r : Answer) (out′ : List ℤ) (terms′ steps′ : List ℕ) : Type 0 where
-  -- refused exactly when document 01's table says, with its number and place; else the eight counts of document 01's pass.
+  -- refused exactly when document 01's table says, with its number, place and field; else the eight counts of document 01's pass.
   -- Wrong: always refusing; a count that is invented
   pub answer : told r ≡ Paper.after l wires bits qcap tcap out terms steps .answer
   -- refused: as it was. Done: the pass's gates, 0 up to the list's length, the rest untouched.

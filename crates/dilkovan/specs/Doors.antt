@@ -12,9 +12,9 @@ use Rattle.cnot_min.specs.declared.Answer.the-variants.{Refused, Done}
 use Rattle.saying.specs.Answer as Text
 use Rattle.saying.specs.declared.Said.{Said}
 
--- 0 where it is done; else the refusal's number * 2^32 + its place
+-- 0 where it is done; else the refusal's field * 2^48 + its number * 2^32 + its place
 abbrev pub coded : Paper.Answer → ℕ
-coded (Paper.refusal r) = r .number * 2 ^ 32 + r .place
+coded (Paper.refusal r) = r .field * 2 ^ 48 + r .number * 2 ^ 32 + r .place
 coded (Paper.done c) = 0
 
 -- the eight counts, in document 01's order

@@ -14,13 +14,15 @@ ghost use Rattle.shorten.specs.Answer as Shorten;
 ghost use Rattle.shorten.specs.Contracts.{Shortens};
 ghost use Rattle.dilkovan.specs.Doors.{coded, listed, Exports, ExportsText, Placed};
 
-// 0 where it is done; else the refusal's number * 2^32 + its place.
+// 0 where it is done; else the refusal's field * 2^48 + its number * 2^32 + its place.
 fn code(a: Answer) -> u64
     requires { ⌜ Placed a ⌝ }
     ensures { λ r. ⌜ r ≡ coded (told a) ⌝ }
 {
     match a {
-        Answer::Refused(r) => r.number as u64 * 4294967296 + r.place as u64,
+        Answer::Refused(r) => {
+            r.field as u64 * 281474976710656 + r.number as u64 * 4294967296 + r.place as u64
+        }
         Answer::Done(_) => 0,
     }
 }

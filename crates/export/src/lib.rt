@@ -30,7 +30,7 @@ fn print(numbers: &[i32], head: Head, out: &mut [u8]) -> Said
     let g = numbers.len() / GATE_WIDTH;
     let first = qasm::unspelled(numbers);
     if first < g {
-        return saying::refuse(out, 13, first as u32);
+        return saying::refuse(out, 13, first as u32, 0);
     }
     Said {
         length: qasm::write_qasm(out, 0, head.wires, head.bits, numbers),
@@ -55,7 +55,7 @@ fn check(numbers: &[i32], head: Head, out: &mut [u8]) -> Said
         STEP_WIDTH * (g + MAX_COLUMNS),
     );
     match verdict {
-        Verdict::Refused(r) => saying::refuse(out, r.number as u32, r.place as u32),
+        Verdict::Refused(r) => saying::refuse(out, r.number as u32, r.place as u32, r.field as u32),
         Verdict::Accepted => print(numbers, head, out),
     }
 }

@@ -15,6 +15,7 @@ use Rattle.rules.specs.Pass as Pass
 use Rattle.rules.specs.Pass.{pass, counts, over}
 use Rattle.rules.proofs.Reading.{length-numbers, gates-length}
 use Rattle.rules.proofs.Accepting.{placeOf}
+use Rattle.gate.specs.Verdicts.{refusalOf}
 use Rattle.cnot_min.specs.Minimizing.{told, counted, Minimizes}
 use Rattle.cnot_min.specs.declared.Answer.{Answer}
 use Rattle.cnot_min.specs.declared.Answer.the-variants.{Refused, Done}
@@ -62,7 +63,7 @@ module _ (h : Head) (l out : List ℤ) (terms steps : List ℕ) (out′ : List �
   pub fits : (a : Answer) (rest : List ℤ) → Minimizes l (h .wires) (h .bits) (h .qubits) (h .terms) out terms steps a out′ terms′ steps′ → Fits h l a (out′ ++ rest)
   unfolding Pass.outAfter
   fits (Refused r) rest m =
-      let is : refused (record { number = r .number; place = r .place }) ≡ exact h l = ap asVerdict (m .answer ∙ ap (λ (x : Pass.After). x .answer) after-is) ∙ judged-as (exact h l) gs new out terms steps in
+      let is : refused (refusalOf r) ≡ exact h l = ap asVerdict (m .answer ∙ ap (λ (x : Pass.After). x .answer) after-is) ∙ judged-as (exact h l) gs new out terms steps in
       record {
         is = sym is;
         place = omega (arith, ap placeOf is, few .few, exact-place h l);

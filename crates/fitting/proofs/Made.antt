@@ -101,7 +101,7 @@ module _ (h : Head) (ns : List ℤ) (e : exact h ns ≡ accepted) where
       output-sound (h .wires) (h .bits) (writerOf p) (plan-sound (h .wires) (h .bits) p) p (gatesOf ns)
       (accepted-sound ns (h .wires) (h .bits) (length ns) (termWidth * termEntries (length ns / width)) (stepWidth * stepEntries (length ns / width)) e)
 
-  pub made-right : (i : ℕ) → i < length (numbersOf (new .gates)) / width → faultAt (numbersOf (new .gates)) (h .wires) (h .bits) i ≡ 0
+  pub made-right : (i : ℕ) → i < length (numbersOf (new .gates)) / width → faultAt (numbersOf (new .gates)) (h .wires) (h .bits) i .number ≡ 0
   unfolding exact
   made-right =
       let t : ℕ = termWidth * termEntries (length ns / width) in

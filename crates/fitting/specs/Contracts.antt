@@ -6,10 +6,11 @@ use lib.IntN.{ℤ}
 use lib.ListN.{length, take}
 use Rattle.rules.specs.Limits.{width}
 use Rattle.rules.specs.Numbers.{gatesOf, numbersOf}
-use Rattle.rules.specs.Refusal.{accepted, refuse}
+use Rattle.rules.specs.Refusal.{accepted, refused}
 use Rattle.rules.specs.Pass as Paper
 use Rattle.rules.specs.Pass.{pass}
 use Rattle.gate.specs.declared.Refusal.{Refusal}
+use Rattle.gate.specs.Verdicts.{refusalOf}
 use Rattle.cnot_min.specs.Minimizing.{counted}
 use Rattle.cnot_min.specs.declared.Counts.{Counts}
 use Rattle.cnot_min.specs.declared.Answer.{Answer}
@@ -31,7 +32,7 @@ pub record Small (c : Counts) : Type 0 where
 
 -- refused as the list is, at one of its gates
 pub record Denied (h : Head) (l : List ℤ) (r : Refusal) : Type 0 where
-  pub is : exact h l ≡ refuse (r .number) (r .place)
+  pub is : exact h l ≡ refused (refusalOf r)
   pub place : r .place ≤ listGates
 
 -- done: the pass's gates stand first in the room, and its counts are told

@@ -1,23 +1,30 @@
--- A plain gate has no fault.
+-- A plain gate fails no test.
 use mathlib.Core.Path.{_≡_, sym}
 use mathlib.Core.Bool.{Bool, true, false, not, _&&_, _||_, false≢true}
+use mathlib.Core.List.{List}
 use Prim.Native.Nat.{ℕ, _≤_}
 use native.Mathlib.Omega.{arith}
 use borrow.Author.Tests.{le-leb, lt-leb, leb-true, ne-eqb, not-true}
 use lib.Dec.{eqb, leb}
 use lib.IntN.{ℤ}
+use lib.ListN.{replicate}
 use Rattle.rules.specs.Gate.{from, codeX, codeRz, codeCnot, codeCz}
 use Rattle.rules.specs.Numbers.{inside, same}
-use Rattle.rules.specs.Refusal.{nought, gateFault}
+use Rattle.rules.specs.Refusal.{nought, gateTests}
 use Rattle.rules.proofs.Bits.{split, and-left, and-right}
 use Rattle.gate.specs.Plain.{single, paired, plain}
+use Rattle.gate.specs.Numbered.{flags}
 
 or-right : (a b : Bool) → a ≡ false → (a || b) ≡ true → b ≡ true
 or-right true b e h = absurd (false≢true (sym e))
 or-right false b e h = h
 
+-- each of the seven
+abbrev pub pass : List Bool
+pass = replicate 7 false
+
 module _ (c w b : ℕ) (x y z t : ℤ) (first : inside x w ≡ true) (third : nought z ≡ true) where
-  single-faultless : single c y t ≡ true → gateFault c w b x y z t ≡ 0
+  single-faultless : single c y t ≡ true → flags (gateTests c w b x y z t) ≡ pass
   single-faultless h =
       let f : from codeX codeRz c ≡ true = and-left (from codeX codeRz c) (nought y && (eqb c codeRz || nought t)) h in
       let r : (nought y && (eqb c codeRz || nought t)) ≡ true = and-right (from codeX codeRz c) (nought y && (eqb c codeRz || nought t)) h in
@@ -25,12 +32,12 @@ module _ (c w b : ℕ) (x y z t : ℤ) (first : inside x w ≡ true) (third : no
       let turn : (eqb c codeRz || nought t) ≡ true = and-right (nought y) (eqb c codeRz || nought t) r in
       small (leb-true 1 c (and-left (leb 1 c) (leb c 7) f)) (leb-true c 7 (and-right (leb 1 c) (leb c 7) f)) second turn
     where
-      small : 1 ≤ c → c ≤ 7 → nought y ≡ true → (eqb c codeRz || nought t) ≡ true → gateFault c w b x y z t ≡ 0
+      small : 1 ≤ c → c ≤ 7 → nought y ≡ true → (eqb c codeRz || nought t) ≡ true → flags (gateTests c w b x y z t) ≡ pass
       small low high second turn =
           rw (le-leb 1 c low, le-leb c 27 (omega arith), lt-leb 8 c (omega arith), lt-leb 17 c (omega arith), lt-leb 24 c (omega arith), lt-leb 14 c (omega arith), lt-leb 20 c (omega arith), ne-eqb c 27 (λ q. omega arith), first, third, second)
           (split (eqb c 7) (λ e. rw e) (λ e. rw (e, or-right (eqb c 7) (nought t) e turn)))
 
-  paired-faultless : paired c w x y t ≡ true → gateFault c w b x y z t ≡ 0
+  paired-faultless : paired c w x y t ≡ true → flags (gateTests c w b x y z t) ≡ pass
   paired-faultless h =
       let f : from codeCnot codeCz c ≡ true = and-left (from codeCnot codeCz c) (inside y w && (not (same x y) && nought t)) h in
       let r : (inside y w && (not (same x y) && nought t)) ≡ true = and-right (from codeCnot codeCz c) (inside y w && (not (same x y) && nought t)) h in
@@ -39,11 +46,11 @@ module _ (c w b : ℕ) (x y z t : ℤ) (first : inside x w ≡ true) (third : no
       large (leb-true 8 c (and-left (leb 8 c) (leb c 9) f)) (leb-true c 9 (and-right (leb 8 c) (leb c 9) f)) second
       (not-true (same x y) (and-left (not (same x y)) (nought t) rest)) (and-right (not (same x y)) (nought t) rest)
     where
-      large : 8 ≤ c → c ≤ 9 → inside y w ≡ true → same x y ≡ false → nought t ≡ true → gateFault c w b x y z t ≡ 0
+      large : 8 ≤ c → c ≤ 9 → inside y w ≡ true → same x y ≡ false → nought t ≡ true → flags (gateTests c w b x y z t) ≡ pass
       large low high second other turn =
           rw (le-leb 1 c (omega arith), le-leb c 27 (omega arith), le-leb 8 c low, le-leb c 9 high, lt-leb 24 c (omega arith), ne-eqb c 27 (λ q. omega arith), ne-eqb c 7 (λ q. omega arith), lt-leb 14 c (omega arith), lt-leb 20 c (omega arith), first, second, other, third, turn)
 
-pub plain-faultless : (c w b : ℕ) (x y z t : ℤ) → plain c w x y z t ≡ true → gateFault c w b x y z t ≡ 0
+pub plain-faultless : (c w b : ℕ) (x y z t : ℤ) → plain c w x y z t ≡ true → flags (gateTests c w b x y z t) ≡ pass
 plain-faultless c w b x y z t h =
     let one : (single c y t || paired c w x y t) ≡ true = and-left (single c y t || paired c w x y t) (inside x w && nought z) h in
     let r : (inside x w && nought z) ≡ true = and-right (single c y t || paired c w x y t) (inside x w && nought z) h in

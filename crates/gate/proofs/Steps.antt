@@ -7,16 +7,16 @@ use native.Mathlib.Numerals.{add-one}
 use native.Mathlib.Omega.{arith}
 use lib.Dec.{eqb}
 use lib.IntN.{ℤ}
-use Rattle.rules.specs.Refusal.{accepted, refused, faultAt, faultsFrom}
+use Rattle.rules.specs.Refusal.{accepted, refuse, faultAt, faultsFrom}
 
 module _ (l : List ℤ) (w b n i : ℕ) where
-  pub stops : i < n → eqb (faultAt l w b i) 0 ≡ false → faultsFrom l w b (n - i) i ≡ refused (record { number = faultAt l w b i; place = i })
+  pub stops : i < n → eqb (faultAt l w b i .number) 0 ≡ false → faultsFrom l w b (n - i) i ≡ refuse (faultAt l w b i) i
   unfolding faultsFrom
   stops h e =
       let k : n - i ≡ suc (n - (i + 1)) = omega arith in
       rw (k, e)
 
-  pub goes-on : i < n → eqb (faultAt l w b i) 0 ≡ true → faultsFrom l w b (n - i) i ≡ faultsFrom l w b (n - (i + 1)) (i + 1)
+  pub goes-on : i < n → eqb (faultAt l w b i .number) 0 ≡ true → faultsFrom l w b (n - i) i ≡ faultsFrom l w b (n - (i + 1)) (i + 1)
   unfolding faultsFrom
   goes-on h e =
       let k : n - i ≡ suc (n - (i + 1)) = omega arith in

@@ -26,7 +26,7 @@ ghost use Rattle.gate.specs.Reading.{Reads};
 ghost use Rattle.gate.specs.Writing.{placed, gateOf, Small};
 ghost use Rattle.gate.specs.Counting.{having};
 ghost use Rattle.gate.specs.Plain as Plain;
-ghost use Rattle.gate.specs.Numbered.{numbered};
+ghost use Rattle.gate.specs.Numbered.{numbered, failing, failingAt};
 
 // The opaque codes at which a run of the table begins or ends.
 const CODE_P: u32 = 14;
@@ -45,10 +45,11 @@ const CODE_CSWAP: u32 = 26;
 
 const CODE_MEASURE: u32 = 27;
 
-// The refusal's number in document 01's table, and its place.
+// The refusal's number in document 01's table, its place, and the field that is wrong: 1 first, 2 second, 3 third; 0 where it names none.
 pub struct Refusal {
     pub number: u8,
     pub place: usize,
+    pub field: u8,
 }
 
 pub enum Verdict {
@@ -124,22 +125,13 @@ fn turned(c: u32) -> bool
     (c == CODE_RZ) | (from(CODE_P, CODE_RY, c) | from(CODE_CP, CODE_CRZ, c))
 }
 
-// ---- the check of one gate: a test for each of 6 to 9
+// ---- the check of one gate
 
 // Not 7: the fields that the code does not use are 0.
 fn unused(c: u32, y: i32, z: i32, t: i32) -> bool
     ensures { λ r. ⌜ r ≡ Refusals.unused c y z t ⌝ }
 {
     (second(c) | (bitted(c) | same(y, 0))) & ((third(c) | same(z, 0)) & (turned(c) | same(t, 0)))
-}
-
-// Not 8: wires are below the wires, a measure's bit is below the bits.
-fn ranged(c: u32, wires: usize, bits: usize, x: i32, y: i32, z: i32) -> bool
-    ensures { λ r. ⌜ r ≡ Refusals.ranged c wires bits x y z ⌝ }
-{
-    inside(x, wires)
-        & ((!second(c) | inside(y, wires))
-            & ((!bitted(c) | inside(y, bits)) & (!third(c) | inside(z, wires))))
 }
 
 // Not 9: no wire stands twice.
@@ -149,15 +141,15 @@ fn apart(c: u32, x: i32, y: i32, z: i32) -> bool
     !(second(c) & same(x, y)) & !(third(c) & (same(x, z) | same(y, z)))
 }
 
-// The number of the first test that fails, or 0 where none does.
-fn first_of(fails: &[bool], numbers: &[u8]) -> u8
-    requires { ⌜ length (now fails) ≤ length (now numbers) ⌝ }
-    ensures { λ r. ⌜ r ≡ Refusals.firstOf (numbered (now (fails .entry)) (now (numbers .entry))) ⌝ }
+// What is given for the first test that fails, or 0 where none does.
+fn first_of(fails: &[bool], gives: &[u8]) -> u8
+    requires { ⌜ length (now fails) ≤ length (now gives) ⌝ }
+    ensures { λ r. ⌜ r ≡ Refusals.firstOf (numbered (now (fails .entry)) (now (gives .entry))) 0 ⌝ }
 {
     let mut i = 0;
     while i < fails.len() {
         if fails[i] {
-            return numbers[i];
+            return gives[i];
         }
         i += 1;
     }
@@ -178,15 +170,17 @@ fn paired(c: u32, wires: usize, x: i32, y: i32, t: i32) -> bool
     from(CODE_CNOT, CODE_CZ, c) & (inside(y, wires) & (!same(x, y) & same(t, 0)))
 }
 
-// Enough for no fault, and most gates of a list pass it: the four tests are made for the others alone.
+// Enough for no fault, and most gates of a list pass it: the tests are made for the others alone.
 fn plain(c: u32, wires: usize, x: i32, y: i32, z: i32, t: i32) -> bool
     ensures { λ r. ⌜ r ≡ Plain.plain c wires x y z t ⌝ }
 {
     (single(c, y, t) | paired(c, wires, x, y, t)) & (inside(x, wires) & same(z, 0))
 }
 
-fn fault(wires: usize, bits: usize, code: i32, x: i32, y: i32, z: i32, t: i32) -> u8
-    ensures { λ r. ⌜ r ≡ Refusals.faultOf wires bits code x y z t ⌝ }
+// What is given for the first of a gate's tests that fails: 6, 7, the fields from left to right, 9.
+fn told(wires: usize, bits: usize, code: i32, x: i32, y: i32, z: i32, t: i32, gives: &[u8]) -> u8
+    requires { ⌜ 7 ≤ length (now gives) ⌝ }
+    ensures { λ r. ⌜ r ≡ Refusals.firstOf (numbered (failing wires bits code x y z t) (now (gives .entry))) 0 ⌝ }
 {
     let c = nat(code);
     if plain(c, wires, x, y, z, t) {
@@ -195,20 +189,23 @@ fn fault(wires: usize, bits: usize, code: i32, x: i32, y: i32, z: i32, t: i32) -
     let fails = [
         !from(CODE_X, CODE_MEASURE, c),
         !unused(c, y, z, t),
-        !ranged(c, wires, bits, x, y, z),
+        !inside(x, wires),
+        second(c) & !inside(y, wires),
+        bitted(c) & !inside(y, bits),
+        third(c) & !inside(z, wires),
         !apart(c, x, y, z),
     ];
-    let numbers = [6u8, 7, 8, 9];
-    first_of(&fails, &numbers)
+    first_of(&fails, gives)
 }
 
-// The refusal of the gate at a place, 6 to 9, or 0 for none.
-pub fn fault_at(list: &[i32], wires: usize, bits: usize, i: usize) -> u8
+// The same of the gate at a place.
+fn told_at(list: &[i32], wires: usize, bits: usize, i: usize, gives: &[u8]) -> u8
     requires { ⌜ width * i + width ≤ length (now list) ⌝ }
-    ensures { λ r. ⌜ r ≡ Refusals.faultAt (now (list .entry)) wires bits i ⌝ }
+    requires { ⌜ 7 ≤ length (now gives) ⌝ }
+    ensures { λ r. ⌜ r ≡ Refusals.firstOf (numbered (failingAt (now (list .entry)) wires bits i) (now (gives .entry))) 0 ⌝ }
 {
     let at = GATE_WIDTH * i;
-    fault(
+    told(
         wires,
         bits,
         list[at],
@@ -216,16 +213,39 @@ pub fn fault_at(list: &[i32], wires: usize, bits: usize, i: usize) -> u8
         list[at + 2],
         list[at + 3],
         list[at + 4],
+        gives,
     )
+}
+
+// The number of the gate's refusal, 6 to 9 or 14, or 0 for none.
+pub fn fault_at(list: &[i32], wires: usize, bits: usize, i: usize) -> u8
+    requires { ⌜ width * i + width ≤ length (now list) ⌝ }
+    ensures { λ r. ⌜ r ≡ Refusals.faultAt (now (list .entry)) wires bits i .number ⌝ }
+{
+    let numbers = [6u8, 7, 8, 8, 14, 8, 9];
+    told_at(list, wires, bits, i, &numbers)
+}
+
+// The field that it names, asked only of a gate that is refused.
+fn field_at(list: &[i32], wires: usize, bits: usize, i: usize) -> u8
+    requires { ⌜ width * i + width ≤ length (now list) ⌝ }
+    ensures { λ r. ⌜ r ≡ Refusals.faultAt (now (list .entry)) wires bits i .field ⌝ }
+{
+    let fields = [0u8, 0, 1, 2, 2, 3, 0];
+    told_at(list, wires, bits, i, &fields)
 }
 
 // ---- the check of a list
 
 // Every refusal is made here.
-fn refused(number: u8, place: usize) -> Verdict
-    ensures { λ r. ⌜ verdictOf r ≡ Refusals.refuse number place ⌝ }
+fn refused(number: u8, place: usize, field: u8) -> Verdict
+    ensures { λ r. ⌜ verdictOf r ≡ Refusals.refuse (Refusals.tell number field) place ⌝ }
 {
-    Verdict::Refused(Refusal { number, place })
+    Verdict::Refused(Refusal {
+        number,
+        place,
+        field,
+    })
 }
 
 // The first n gates, in list order.
@@ -237,7 +257,7 @@ fn check_gates(list: &[i32], wires: usize, bits: usize, n: usize) -> Verdict
     while i < n {
         let number = fault_at(list, wires, bits, i);
         if number != 0 {
-            return refused(number, i);
+            return refused(number, i, field_at(list, wires, bits, i));
         }
         i += 1;
     }
@@ -267,7 +287,7 @@ pub fn check_list(
     let numbers = [1u8, 2, 3, 4, 5];
     let number = first_of(&fails, &numbers);
     if number != 0 {
-        return refused(number, 0);
+        return refused(number, 0, 0);
     }
     check_gates(list, wires, bits, g)
 }

@@ -22,7 +22,7 @@ use Rattle.qasm.proofs.Trips.{import-export}
 use Rattle.import.specs.Answer.{headFor, readAs, answerBy}
 use Rattle.import.specs.Contracts.{Held}
 
-pub answer-long : (next : Next) (text : List ℕ) → listBytes < length text → answerBy next text ≡ refusal 10 0
+pub answer-long : (next : Next) (text : List ℕ) → listBytes < length text → answerBy next text ≡ refusal 10 0 0
 unfolding answerBy
 answer-long next text h = rw (lt-ltb listBytes (length text) h)
 

@@ -13,9 +13,9 @@ headFor wires bits = record { wires = wires; bits = bits; qubits = 128; terms = 
 
 -- 13: the first line that is wrong or missing; 12: more than 512 gates; 3: more than 1,024 wires or bits
 abbrev pub readAs : Next → Import → Answer
-readAs next (wrong line) = refusal 13 line
-readAs next many = refusal 12 0
-readAs next large = refusal 3 0
+readAs next (wrong line) = refusal 13 line 0
+readAs next many = refusal 12 0 0
+readAs next large = refusal 3 0 0
 readAs next (list wires bits numbers) = next (headFor wires bits) numbers
 
 -- 10, then line by line 13, then 12 and 3; then what the program says of the list

@@ -30,12 +30,12 @@ pub fn take(text: &[u8], numbers: &mut [i32], out: &mut [u8]) -> Taken
     ensures { λ r. ⌜ Takes (now (text .entry)) (now (out .entry)) (now (numbers .exit)) r (now (out .exit)) ⌝ }
 {
     if LIST_BYTES < text.len() {
-        return Taken::Refused(saying::refuse(out, 10, 0));
+        return Taken::Refused(saying::refuse(out, 10, 0, 0));
     }
     match qasm::read_qasm(text, LIST_GATES, numbers) {
-        Imported::Wrong(line) => Taken::Refused(saying::refuse(out, 13, line as u32)),
-        Imported::Many => Taken::Refused(saying::refuse(out, 12, 0)),
-        Imported::Large => Taken::Refused(saying::refuse(out, 3, 0)),
+        Imported::Wrong(line) => Taken::Refused(saying::refuse(out, 13, line as u32, 0)),
+        Imported::Many => Taken::Refused(saying::refuse(out, 12, 0, 0)),
+        Imported::Large => Taken::Refused(saying::refuse(out, 3, 0, 0)),
         Imported::Good(wires, bits, n) => {
             let head = Head {
                 wires,

@@ -30,6 +30,10 @@ behind text prints = record { text = bytes "head 4\n1\n0\n128\n512\n" ++ bytes t
 abbrev pub one : String → String → Case
 one text prints = record { text = bytes "head 4\n1\n0\n128\n512\ngates 1\n" ++ bytes text; prints = bytes prints }
 
+-- one gate, on two wires and one bit
+abbrev pub two : String → String → Case
+two text prints = record { text = bytes "head 4\n2\n1\n128\n512\ngates 1\n" ++ bytes text; prints = bytes prints }
+
 abbrev pub cases : List Case
 cases =
     -- document 01's list
@@ -38,49 +42,59 @@ cases =
     -- no gates; caps that are clamped are printed as they were read
     ∷ plain "head 4\n0\n0\n0\n2147483647\ngates 0\n" "head 4\n0\n0\n0\n2147483647\ngates 0\ncounts 8\n0\n0\n0\n0\n0\n0\n0\n0\n"
     -- a text that is empty, ends early, or has another head
-    ∷ plain "" "refused 11 1\n"
-    ∷ plain "head 4" "refused 11 1\n"
-    ∷ plain "head 5\n1\n0\n128\n512\ngates 0\n" "refused 11 1\n"
-    ∷ plain "head 4\n1\n0\n" "refused 11 4\n"
-    ∷ plain "head 4\n1\n0\n128\n2147483648\ngates 0\n" "refused 11 5\n"
-    ∷ behind "" "refused 11 6\n"
+    ∷ plain "" "refused 11 1 0\n"
+    ∷ plain "head 4" "refused 11 1 0\n"
+    ∷ plain "head 5\n1\n0\n128\n512\ngates 0\n" "refused 11 1 0\n"
+    ∷ plain "head 4\n1\n0\n" "refused 11 4 0\n"
+    ∷ plain "head 4\n1\n0\n128\n2147483648\ngates 0\n" "refused 11 5 0\n"
+    ∷ behind "" "refused 11 6 0\n"
     -- the count: 512 is the most; beyond the range of numbers the line is malformed
-    ∷ behind "gates 513\n" "refused 12 6\n"
-    ∷ behind "gates 2147483647\nx" "refused 12 6\n"
-    ∷ behind "gates 2147483648\n" "refused 11 6\n"
-    ∷ behind "gates 512\n" "refused 11 7\n"
-    ∷ behind "gates -1\n" "refused 11 6\n"
-    ∷ behind "gates -0\n" "refused 11 6\n"
-    ∷ behind "gates 00\n" "refused 11 6\n"
+    ∷ behind "gates 513\n" "refused 12 6 0\n"
+    ∷ behind "gates 2147483647\nx" "refused 12 6 0\n"
+    ∷ behind "gates 2147483648\n" "refused 11 6 0\n"
+    ∷ behind "gates 512\n" "refused 11 7 0\n"
+    ∷ behind "gates -1\n" "refused 11 6 0\n"
+    ∷ behind "gates -0\n" "refused 11 6 0\n"
+    ∷ behind "gates 00\n" "refused 11 6 0\n"
     -- a gate's line: a missing LF, a surplus line, numbers too few and too many
-    ∷ one "2 0 0 0 0" "refused 11 7\n"
-    ∷ one "2 0 0 0 0\n\n" "refused 11 8\n"
-    ∷ one "2 0 0 0\n" "refused 11 7\n"
-    ∷ one "2 0 0 0 0 0\n" "refused 11 7\n"
+    ∷ one "2 0 0 0 0" "refused 11 7 0\n"
+    ∷ one "2 0 0 0 0\n\n" "refused 11 8 0\n"
+    ∷ one "2 0 0 0\n" "refused 11 7 0\n"
+    ∷ one "2 0 0 0 0 0\n" "refused 11 7 0\n"
     -- -0, leading zeros, a plus, one past each end; CR, tab, blanks, NUL
-    ∷ one "2 -0 0 0 0\n" "refused 11 7\n"
-    ∷ one "2 00 0 0 0\n" "refused 11 7\n"
-    ∷ one "+2 0 0 0 0\n" "refused 11 7\n"
-    ∷ one "7 0 0 0 2147483648\n" "refused 11 7\n"
-    ∷ one "7 0 0 0 -2147483649\n" "refused 11 7\n"
-    ∷ one "2 0 0 0 0\r\n" "refused 11 7\n"
-    ∷ one "2\t0 0 0 0\n" "refused 11 7\n"
-    ∷ one "2  0 0 0 0\n" "refused 11 7\n"
-    ∷ one "2 0 0 0 0 \n" "refused 11 7\n"
-    ∷ one "2 0 0 0 0\0\n" "refused 11 7\n"
+    ∷ one "2 -0 0 0 0\n" "refused 11 7 0\n"
+    ∷ one "2 00 0 0 0\n" "refused 11 7 0\n"
+    ∷ one "+2 0 0 0 0\n" "refused 11 7 0\n"
+    ∷ one "7 0 0 0 2147483648\n" "refused 11 7 0\n"
+    ∷ one "7 0 0 0 -2147483649\n" "refused 11 7 0\n"
+    ∷ one "2 0 0 0 0\r\n" "refused 11 7 0\n"
+    ∷ one "2\t0 0 0 0\n" "refused 11 7 0\n"
+    ∷ one "2  0 0 0 0\n" "refused 11 7 0\n"
+    ∷ one "2 0 0 0 0 \n" "refused 11 7 0\n"
+    ∷ one "2 0 0 0 0\0\n" "refused 11 7 0\n"
     -- both ends of a turn
     ∷ one "7 0 0 0 -2147483648\n" "head 4\n1\n0\n128\n512\ngates 0\ncounts 8\n1\n0\n0\n0\n0\n0\n1\n1\n"
     ∷ one "14 0 0 0 2147483647\n" "head 4\n1\n0\n128\n512\ngates 1\n14 0 0 0 2147483647\ncounts 8\n1\n1\n0\n0\n0\n0\n0\n0\n"
-    -- after all lines, 3, and then 6 to 9 with the gate's index
-    ∷ plain "head 4\n1025\n0\n128\n512\ngates 1\n0 0 0 0 0\n" "refused 3 0\n"
-    ∷ one "28 0 0 0 0\n" "refused 6 0\n"
-    ∷ one "2 0 1 0 0\n" "refused 7 0\n"
-    ∷ one "2 1 0 0 0\n" "refused 8 0\n"
-    ∷ one "8 0 0 0 0\n" "refused 9 0\n"
-    ∷ behind "gates 2\n2 0 0 0 0\n2 -1 0 0 0\n" "refused 8 1\n"
+    -- after all lines, 3, and then 6 to 9 and 14 with the gate's index
+    ∷ plain "head 4\n1025\n0\n128\n512\ngates 1\n0 0 0 0 0\n" "refused 3 0 0\n"
+    ∷ one "28 0 0 0 0\n" "refused 6 0 0\n"
+    ∷ one "2 0 1 0 0\n" "refused 7 0 0\n"
+    ∷ one "2 1 0 0 0\n" "refused 8 0 1\n"
+    ∷ one "8 0 0 0 0\n" "refused 9 0 0\n"
+    ∷ behind "gates 2\n2 0 0 0 0\n2 -1 0 0 0\n" "refused 8 1 1\n"
+    -- the first bad field from the left: a wire, first and third; a bit, and its wire before it
+    ∷ one "1 1 0 0 0\n" "refused 8 0 1\n"
+    ∷ two "24 0 1 2 0\n" "refused 8 0 3\n"
+    ∷ two "27 0 1 0 0\n" "refused 14 0 2\n"
+    ∷ two "27 2 1 0 0\n" "refused 8 0 1\n"
+    -- an unused field before all others, a wire twice behind them; these name no field
+    ∷ one "1 0 5 0 0\n" "refused 7 0 0\n"
+    ∷ one "8 5 5 1 0\n" "refused 7 0 0\n"
+    ∷ two "8 1 1 0 0\n" "refused 9 0 0\n"
+    ∷ two "24 1 1 2 0\n" "refused 8 0 3\n"
     -- the longest text is read; one byte more is not
-    ∷ record { text = replicate listBytes lf; prints = bytes "refused 11 1\n" }
-    ∷ record { text = replicate (listBytes + 1) lf; prints = bytes "refused 10 0\n" }
+    ∷ record { text = replicate listBytes lf; prints = bytes "refused 11 1 0\n" }
+    ∷ record { text = replicate (listBytes + 1) lf; prints = bytes "refused 10 0 0\n" }
     ∷ []
 
 pub worked : map (λ (c : Case). answer (c .text) .text) cases ≡ map (λ (c : Case). c .prints) cases

@@ -19,7 +19,7 @@ shortened h numbers =
     let new = pass (h .qubits) (h .terms) gs in
     answered (resultText h (numbersOf (new .gates)) (countNumbers (counts gs new)))
 
--- 10, then line by line, then 3 and 6 to 9
+-- 10, then line by line, then 3, then gate by gate
 unfoldable pub answer : List ℕ → Answer
 unfolding answerBy shortened
 answer text = answerBy shortened text

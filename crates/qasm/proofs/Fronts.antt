@@ -22,13 +22,13 @@ use Rattle.qasm.specs.Contracts.{ReadsSize, lineAfter}
 
 -- ---- a gate that is right
 
-pub reads-right : (text : List ℕ) (at w b : ℕ) (ok : Bool) (row : List ℤ) (next : ℕ) (fault : ℕ) → Reads text (anyGate (drop at text)) ok row next → fault ≡ faultAt row w b 0
+pub reads-right : (text : List ℕ) (at w b : ℕ) (ok : Bool) (row : List ℤ) (next : ℕ) (fault : ℕ) → Reads text (anyGate (drop at text)) ok row next → fault ≡ faultAt row w b 0 .number
     → Reads text (statement w b (drop at text)) (ok && eqb fault 0) row next
 unfolding statement
 reads-right text at w b ok row next fault r e = record { exact = go ok (r .exact); within = r .within }
   where
     go : (ok : Bool) → reached text ok row next ≡ anyGate (drop at text)
-        → reached text (ok && eqb fault 0) row next ≡ onward (anyGate (drop at text)) none (λ x left. cond (eqb (faultAt x w b 0) 0) (found x left) none)
+        → reached text (ok && eqb fault 0) row next ≡ onward (anyGate (drop at text)) none (λ x left. cond (eqb (faultAt x w b 0 .number) 0) (found x left) none)
     go true f = rw (← f, e)
     go false f = rw (← f)
 

@@ -59,10 +59,10 @@ codeOf row = natOf (getD row 0 (pos 0))
 pub record Gated (w b : ℕ) (row : List ℤ) : Type 0 where
   pub size : length row ≡ width
   pub each : Ranged row
-  pub right : faultAt row w b 0 ≡ 0
+  pub right : faultAt row w b 0 .number ≡ 0
   pub known : spelled (codeOf row) ≡ true
 
-module _ (w b : ℕ) (row : List ℤ) (h : faultAt row w b 0 ≡ 0) where
+module _ (w b : ℕ) (row : List ℤ) (h : faultAt row w b 0 .number ≡ 0) where
   pub row-fit : Fit w b (codeOf row) (natOf (getD row 1 (pos 0))) (natOf (getD row 2 (pos 0))) (natOf (getD row 3 (pos 0))) (getD row 4 (pos 0))
   unfolding faultAt
   row-fit = fit w b (getD row 0 (pos 0)) (getD row 1 (pos 0)) (getD row 2 (pos 0)) (getD row 3 (pos 0)) (getD row 4 (pos 0)) h
@@ -162,7 +162,7 @@ bare-ranged c h = (omega arith, (omega arith, (omega arith, (omega arith, (omega
 pub statement-read : (w b : ℕ) (bs : List ℕ) (row : List ℤ) (left : List ℕ) → statement w b bs ≡ found row left → (bs ≡ statementText row ++ left) × Gated w b row
 unfolding statement anyGate statementText
 statement-read w b bs row left h =
-    let o = goes-on (readFirst lastCode 1 bs) (λ r rest. cond (eqb (faultAt r w b 0) 0) (found r rest) none) row left h in
+    let o = goes-on (readFirst lastCode 1 bs) (λ r rest. cond (eqb (faultAt r w b 0 .number) 0) (found r rest) none) row left h in
     let p = passed (o .0) (o .1 .0) (o .1 .1 .1) in
     let d = first-read lastCode 1 bs (o .0) (o .1 .0) (o .1 .1 .0) in
     let a = as-read (d .0) bs (o .0) (o .1 .0) (d .1) in
@@ -173,8 +173,8 @@ statement-read w b bs row left h =
       subst (Gated w b) (p .1 .0) (record { size = r .size; each = r .each (bare-ranged (d .0) (spelled-most (d .0) (a .0))); right = p .0; known = rw code (a .0) }),
     )
   where
-    passed : (r : List ℤ) (rest : List ℕ) → cond (eqb (faultAt r w b 0) 0) (found r rest) none ≡ found row left → (faultAt r w b 0 ≡ 0) × ((r ≡ row) × (rest ≡ left))
-    passed r rest h = split (eqb (faultAt r w b 0) 0) (λ e. let g : found r rest ≡ found row left = rw e at h in (eqb-true (faultAt r w b 0) 0 e, (cc, cc))) (λ e. absent row left (rw e at h))
+    passed : (r : List ℤ) (rest : List ℕ) → cond (eqb (faultAt r w b 0 .number) 0) (found r rest) none ≡ found row left → (faultAt r w b 0 .number ≡ 0) × ((r ≡ row) × (rest ≡ left))
+    passed r rest h = split (eqb (faultAt r w b 0 .number) 0) (λ e. let g : found r rest ≡ found row left = rw e at h in (eqb-true (faultAt r w b 0 .number) 0 e, (cc, cc))) (λ e. absent row left (rw e at h))
 
 -- it has a byte at least
 pub statement-some : (w b : ℕ) (row : List ℤ) → Gated w b row → 1 ≤ length (statementText row)

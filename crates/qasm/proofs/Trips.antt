@@ -10,7 +10,7 @@ use lib.Dec.{ltb}
 use lib.IntN.{ℤ}
 use lib.ListN.{length, drop}
 use Rattle.rules.specs.Limits.{width, maxWires, maxBits}
-use Rattle.rules.specs.Refusal.{faultAt}
+use Rattle.rules.specs.Refusal.{Fault, faultAt}
 use Rattle.rules.proofs.Bits.{split}
 use Rattle.spelling.specs.Lines.{Lines, bad, good}
 use Rattle.spelling.specs.Reading.{Rows}
@@ -30,7 +30,7 @@ pub record Spellable (most w b : ℕ) (ns : List ℤ) : Type 0 where
   pub wires-fit : w ≤ maxWires
   pub bits-fit : b ≤ maxBits
   pub each : Ranged ns
-  pub right : (i : ℕ) → i < length ns / width → faultAt ns w b i ≡ 0
+  pub right : (i : ℕ) → i < length ns / width → faultAt ns w b i .number ≡ 0
   pub known : unspelled ns ≡ length ns / width
 
 -- ---- gate by gate
@@ -44,7 +44,7 @@ rows-right most w b ns s =
     record {
       size = row-size ns j in-list;
       each = ranged-take width (drop (width * j) ns) (ranged-drop (width * j) ns (s .each));
-      right = row-fault ns w b j ∙ s .right j in-list;
+      right = ap (λ (f : Fault). f .number) (row-fault ns w b j) ∙ s .right j in-list;
       known = rw (row-code ns j) (spelled-all ns g 0 (s .known ∙ sym (zero-add g)) j (omega arith) (omega arith));
     })
 
@@ -101,7 +101,7 @@ spelt most w b ns g size few hw hb ranged e =
       wires-fit = hw;
       bits-fit = hb;
       each = ranged;
-      right = λ i h. sym (row-fault ns w b i) ∙ each-at w b g ns i e (omega arith) .right;
+      right = λ i h. ap (λ (f : Fault). f .number) (sym (row-fault ns w b i)) ∙ each-at w b g ns i e (omega arith) .right;
       known = all-spelled ns (length ns / width) 0 (λ j h l. sym (ap spelled (row-code ns j)) ∙ each-at w b g ns j e (omega arith) .known) ∙ zero-add (length ns / width);
     }
 

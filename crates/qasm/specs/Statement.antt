@@ -73,4 +73,4 @@ anyGate bs = readFirst lastCode 1 bs
 -- right in a list of w wires and b bits: no index is outside its register, and no wire stands twice
 unfoldable pub statement : ℕ → ℕ → List ℕ → Found (List ℤ)
 unfolding anyGate
-statement w b bs = onward (anyGate bs) none (λ row left. cond (eqb (faultAt row w b 0) 0) (found row left) none)
+statement w b bs = onward (anyGate bs) none (λ row left. cond (eqb (faultAt row w b 0 .number) 0) (found row left) none)

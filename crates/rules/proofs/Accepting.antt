@@ -2,7 +2,7 @@
 use mathlib.Core.Path.{_≡_, refl, sym, ap, _∙_}
 use mathlib.Core.Logic.{_≢_}
 use mathlib.Core.Bool.{Bool, true, false, not, _&&_, _||_, cond, or-true, false≢true}
-use mathlib.Core.List.{List, [], _∷_, _++_}
+use mathlib.Core.List.{List, [], _∷_, _++_, map}
 use Prim.Native.Nat.{ℕ, zero, suc, _+_, _*_, _/_, _%_, _≤_, _<_, zero-le, suc-le-suc}
 use native.Mathlib.Nat.{not-suc-le-zero, le-of-suc-le-suc}
 use native.Mathlib.Omega.{arith}
@@ -13,9 +13,20 @@ use lib.ListN.{length, getD}
 use Rattle.rules.specs.Limits.{width, lastCode, maxGates, maxWires, maxBits, termWidth, stepWidth, termEntries, stepEntries}
 use Rattle.rules.specs.Gate.{Gate, from, second, bitted, third, turned}
 use Rattle.rules.specs.Numbers.{natOf, inside, same, field, gateAt, gatesFrom, gatesOf, numbers, numbersOf}
-use Rattle.rules.specs.Refusal.{Refusal, Verdict, accepted, refused, ruled, nought, unused, ranged, apart, faultOf, faultAt, wholeFault, faultsFrom, verdict}
+use Rattle.rules.specs.Refusal.{Refusal, Fault, Verdict, accepted, refused, tell, none, firstOf, ruled, nought, unused, apart, gateTests, faultOf, faultAt, wholeFault, faultsFrom, verdict}
 use Rattle.rules.proofs.Bits.{split}
 use Rattle.rules.proofs.Reading.{field-after, length-numbers, Natural, write-natural}
+
+-- ---- the first test that fails
+
+-- the tests, each with a part of what it gives
+abbrev pub parts : {A B : Type 0} → (A → B) → List (Bool × A) → List (Bool × B)
+parts f tests = map (λ test. (test .0, f (test .1))) tests
+
+-- a part of the first is the first of the parts
+pub first-map : {A B : Type 0} (f : A → B) (tests : List (Bool × A)) (else : A) → f (firstOf tests else) ≡ firstOf (parts f tests) (f else)
+first-map f [] else = refl
+first-map f (test ∷ others) else = split (test .0) (λ e. rw e) (λ e. rw e (first-map f others else))
 
 -- ---- the list
 
@@ -27,14 +38,14 @@ pub record Accepted (l : List ℤ) (w b out terms steps : ℕ) : Type 0 where
   pub room : length l ≤ out
   pub term-room : termEntries (length l / width) ≤ terms / termWidth
   pub step-room : stepEntries (length l / width) ≤ steps / stepWidth
-  pub each : (i : ℕ) → i < length l / width → faultAt l w b i ≡ 0
+  pub each : (i : ℕ) → i < length l / width → faultAt l w b i .number ≡ 0
 
 not-refused : (r : Refusal) → refused r ≡ accepted → ⊥
 not-refused r e = let z : _≡_ {A = ℕ} 0 1 = cc in omega arith
 
 -- what is accepted has no fault, and the rest is accepted
-past : (k p : ℕ) (v : Verdict) → ruled k p v ≡ accepted → (k ≡ 0) × (v ≡ accepted)
-past k p v e = split (eqb k 0) (λ f. (eqb-true k 0 f, rw f at e)) (λ f. absurd (not-refused _ (rw f at e)))
+past : (f : Fault) (p : ℕ) (v : Verdict) → ruled f p v ≡ accepted → (f .number ≡ 0) × (v ≡ accepted)
+past f p v e = split (eqb (f .number) 0) (λ t. (eqb-true (f .number) 0 t, rw t at e)) (λ t. absurd (not-refused _ (rw t at e)))
 
 -- no test fails where the first number is 0
 none-first : (t : Bool) (k n : ℕ) → cond t (suc k) n ≡ 0 → (t ≡ false) × (n ≡ 0)
@@ -45,7 +56,7 @@ neither : (s t : Bool) → (s || t) ≡ false → (s ≡ false) × (t ≡ false)
 neither false t h = (refl, h)
 neither true t h = absurd (false≢true (sym h))
 
-faults-each : (l : List ℤ) (w b n i : ℕ) → faultsFrom l w b n i ≡ accepted → (j : ℕ) → j < n → faultAt l w b (i + j) ≡ 0
+faults-each : (l : List ℤ) (w b n i : ℕ) → faultsFrom l w b n i ≡ accepted → (j : ℕ) → j < n → faultAt l w b (i + j) .number ≡ 0
 unfolding faultsFrom
 faults-each l w b zero i e j h = absurd (not-suc-le-zero h)
 faults-each l w b (suc n) i e zero h =
@@ -55,19 +66,19 @@ faults-each l w b (suc n) i e (suc j) h =
     let z : i + suc j ≡ suc i + j = omega arith in
     rw z (faults-each l w b n (suc i) (past (faultAt l w b i) i (faultsFrom l w b n (suc i)) e .1) j (le-of-suc-le-suc h))
 
-each-faults : (l : List ℤ) (w b n i : ℕ) → ((j : ℕ) → j < n → faultAt l w b (i + j) ≡ 0) → faultsFrom l w b n i ≡ accepted
+each-faults : (l : List ℤ) (w b n i : ℕ) → ((j : ℕ) → j < n → faultAt l w b (i + j) .number ≡ 0) → faultsFrom l w b n i ≡ accepted
 unfolding faultsFrom
 each-faults l w b zero i h = refl
 each-faults l w b (suc n) i h =
     let z : i + zero ≡ i = omega arith in
-    let now : faultAt l w b i ≡ 0 = rw z at (h zero (suc-le-suc zero-le)) in
+    let now : faultAt l w b i .number ≡ 0 = rw z at (h zero (suc-le-suc zero-le)) in
     rw now (each-faults l w b n (suc i) (λ j hj. let e : i + suc j ≡ suc i + j = omega arith in rw e at (h (suc j) (suc-le-suc hj))))
 
 pub accepted-is : (l : List ℤ) (w b out terms steps : ℕ) → verdict l w b out terms steps ≡ accepted → Accepted l w b out terms steps
 unfolding verdict
 accepted-is l w b out terms steps e =
     let g : ℕ = length l / width in
-    let p = past (wholeFault (length l) g w b out terms steps) zero (faultsFrom l w b g zero) e in
+    let p = past (tell (wholeFault (length l) g w b out terms steps) 0) zero (faultsFrom l w b g zero) e in
     let p1 = none-first (not (eqb (length l % width) 0)) 0 _ (p .0) in
     let p2 = none-first (ltb maxGates g) 1 _ (p1 .1) in
     let p3 = none-first (ltb maxWires w || ltb maxBits b) 2 _ (p2 .1) in
@@ -107,8 +118,8 @@ abbrev pub placeOf : Verdict → ℕ
 placeOf accepted = 0
 placeOf (refused r) = r .place
 
-ruled-place : (k p m : ℕ) (v : Verdict) → p ≤ m → (k ≡ 0 → placeOf v ≤ m) → placeOf (ruled k p v) ≤ m
-ruled-place k p m v h f = split (eqb k 0) (λ e. rw e (f (eqb-true k 0 e))) (λ e. rw e h)
+ruled-place : (f : Fault) (p m : ℕ) (v : Verdict) → p ≤ m → (f .number ≡ 0 → placeOf v ≤ m) → placeOf (ruled f p v) ≤ m
+ruled-place f p m v h g = split (eqb (f .number) 0) (λ e. rw e (g (eqb-true (f .number) 0 e))) (λ e. rw e h)
 
 faults-place : (l : List ℤ) (w b n i : ℕ) → placeOf (faultsFrom l w b n i) ≤ i + n
 unfolding faultsFrom
@@ -120,13 +131,13 @@ pub verdict-place : (l : List ℤ) (w b out terms steps : ℕ) → placeOf (verd
 unfolding verdict
 verdict-place l w b out terms steps =
     let g : ℕ = length l / width in
-    ruled-place (wholeFault (length l) g w b out terms steps) zero g (faultsFrom l w b g zero) (omega arith) (λ e. omega (arith, faults-place l w b g zero))
+    ruled-place (tell (wholeFault (length l) g w b out terms steps) 0) zero g (faultsFrom l w b g zero) (omega arith) (λ e. omega (arith, faults-place l w b g zero))
 
 pub verdict-few : (l : List ℤ) (w b out terms steps : ℕ) → placeOf (verdict l w b out terms steps) ≤ maxGates
 unfolding verdict
 verdict-few l w b out terms steps =
     let g : ℕ = length l / width in
-    ruled-place (wholeFault (length l) g w b out terms steps) zero maxGates (faultsFrom l w b g zero) (omega arith)
+    ruled-place (tell (wholeFault (length l) g w b out terms steps) 0) zero maxGates (faultsFrom l w b g zero) (omega arith)
     (λ e.
     let p1 = none-first (not (eqb (length l % width) 0)) 0 _ e in
     let p2 = none-first (ltb maxGates g) 1 _ (p1 .1) in
@@ -153,8 +164,8 @@ both : (s t : Bool) → (s && t) ≡ true → (s ≡ true) × (t ≡ true)
 both true t h = (refl, h)
 both false t h = absurd (false≢true h)
 
-given : (s t : Bool) → (not s || t) ≡ true → s ≡ true → t ≡ true
-given true t h e = h
+given : (s t : Bool) → (s && not t) ≡ false → s ≡ true → t ≡ true
+given true t h e = not-false t h
 given false t h e = absurd (false≢true e)
 
 unless : (s t : Bool) → (s || t) ≡ true → s ≡ false → t ≡ true
@@ -190,48 +201,46 @@ pub record Signless (c x y z : ℤ) : Type 0 where
   pub second : pos (natOf y) ≡ y
   pub third : pos (natOf z) ≡ z
 
--- what the four tests say, where none fails
+-- what the tests say, where none fails
 record Passed (w b : ℕ) (code x y z t : ℤ) : Type 0 where
   coded : from 1 lastCode (natOf code) ≡ true
   free : unused (natOf code) y z t ≡ true
-  range : ranged (natOf code) w b x y z ≡ true
+  first-is : inside x w ≡ true
+  second-is : second (natOf code) ≡ true → inside y w ≡ true
+  bit-is : bitted (natOf code) ≡ true → inside y b ≡ true
+  third-is : third (natOf code) ≡ true → inside z w ≡ true
   distinct : apart (natOf code) x y z ≡ true
 
-module _ (w b : ℕ) (code x y z t : ℤ) (h : faultOf w b code x y z t ≡ 0) where
+-- a part of what is wrong with a gate, test by test
+pub fault-part : (f : Fault → ℕ) (w b : ℕ) (code x y z t : ℤ) → f (faultOf w b code x y z t) ≡ firstOf (parts f (gateTests (natOf code) w b x y z t)) (f none)
+unfolding faultOf
+fault-part f w b code x y z t = first-map f (gateTests (natOf code) w b x y z t) none
+
+module _ (w b : ℕ) (code x y z t : ℤ) (h : faultOf w b code x y z t .number ≡ 0) where
   abbrev c : ℕ
   c = natOf code
 
   passed : Passed w b code x y z t
-  unfolding faultOf
   passed =
-      let p6 = none-first (not (from 1 lastCode c)) 5 _ h in
+      let p6 = none-first (not (from 1 lastCode c)) 5 _ (sym (fault-part (λ f. f .number) w b code x y z t) ∙ h) in
       let p7 = none-first (not (unused c y z t)) 6 _ (p6 .1) in
-      let p8 = none-first (not (ranged c w b x y z)) 7 _ (p7 .1) in
-      let p9 = none-first (not (apart c x y z)) 8 _ (p8 .1) in
+      let p1 = none-first (not (inside x w)) 7 _ (p7 .1) in
+      let p2 = none-first (second c && not (inside y w)) 7 _ (p1 .1) in
+      let pb = none-first (bitted c && not (inside y b)) 13 _ (p2 .1) in
+      let p3 = none-first (third c && not (inside z w)) 7 _ (pb .1) in
+      let p9 = none-first (not (apart c x y z)) 8 _ (p3 .1) in
       record {
         coded = not-false (from 1 lastCode c) (p6 .0);
         free = not-false (unused c y z t) (p7 .0);
-        range = not-false (ranged c w b x y z) (p8 .0);
+        first-is = not-false (inside x w) (p1 .0);
+        second-is = given (second c) (inside y w) (p2 .0);
+        bit-is = given (bitted c) (inside y b) (pb .0);
+        third-is = given (third c) (inside z w) (p3 .0);
         distinct = not-false (apart c x y z) (p9 .0);
       }
 
   code-in : (1 ≤ c) × (c ≤ lastCode)
   code-in = let k = both (leb 1 c) (leb c lastCode) (passed .coded) in (leb-true 1 c (k .0), leb-true c lastCode (k .1))
-
-  first-is : inside x w ≡ true
-  first-is = both (inside x w) _ (passed .range) .0
-
-  second-is : second c ≡ true → inside y w ≡ true
-  second-is = given (second c) (inside y w) (both (not (second c) || inside y w) _ (both (inside x w) _ (passed .range) .1) .0)
-
-  last-two : ((not (bitted c) || inside y b) && (not (third c) || inside z w)) ≡ true
-  last-two = both (not (second c) || inside y w) _ (both (inside x w) _ (passed .range) .1) .1
-
-  bit-is : bitted c ≡ true → inside y b ≡ true
-  bit-is = given (bitted c) (inside y b) (both (not (bitted c) || inside y b) _ last-two .0)
-
-  third-is : third c ≡ true → inside z w ≡ true
-  third-is = given (third c) (inside z w) (both (not (bitted c) || inside y b) _ last-two .1)
 
   second-none : second c ≡ false → bitted c ≡ false → y ≡ pos 0
   second-none e f = nought-is y (unless (bitted c) (nought y) (unless (second c) (bitted c || nought y) (both (second c || (bitted c || nought y)) _ (passed .free) .0) e) f)
@@ -248,24 +257,24 @@ module _ (w b : ℕ) (code x y z t : ℤ) (h : faultOf w b code x y z t ≡ 0) w
   second-pos : pos (natOf y) ≡ y
   second-pos =
       split (second c)
-      (λ e. inside-pos y w (second-is e) .0)
-      (λ e. split (bitted c) (λ f. inside-pos y b (bit-is f) .0) (λ f. let z = second-none e f in ap (λ (u : ℤ). pos (natOf u)) z ∙ sym z))
+      (λ e. inside-pos y w (passed .second-is e) .0)
+      (λ e. split (bitted c) (λ f. inside-pos y b (passed .bit-is f) .0) (λ f. let z = second-none e f in ap (λ (u : ℤ). pos (natOf u)) z ∙ sym z))
 
   third-pos : pos (natOf z) ≡ z
-  third-pos = split (third c) (λ e. inside-pos z w (third-is e) .0) (λ e. let u = third-none e in ap (λ (v : ℤ). pos (natOf v)) u ∙ sym u)
+  third-pos = split (third c) (λ e. inside-pos z w (passed .third-is e) .0) (λ e. let u = third-none e in ap (λ (v : ℤ). pos (natOf v)) u ∙ sym u)
 
   pub signless : Signless code x y z
-  signless = record { code = coded-pos code (code-in .0); first = inside-pos x w first-is .0; second = second-pos; third = third-pos }
+  signless = record { code = coded-pos code (code-in .0); first = inside-pos x w (passed .first-is) .0; second = second-pos; third = third-pos }
 
   pub fit : Fit w b c (natOf x) (natOf y) (natOf z) t
   fit =
       record {
         least = code-in .0;
         most = code-in .1;
-        first-in = inside-pos x w first-is .1;
-        second-in = λ s. inside-pos y w (second-is s) .1;
-        bit-in = λ s. inside-pos y b (bit-is s) .1;
-        third-in = λ s. inside-pos z w (third-is s) .1;
+        first-in = inside-pos x w (passed .first-is) .1;
+        second-in = λ s. inside-pos y w (passed .second-is s) .1;
+        bit-in = λ s. inside-pos y b (passed .bit-is s) .1;
+        third-in = λ s. inside-pos z w (passed .third-is s) .1;
         first-second = λ s e. denied (second c) (same x y) (both (not (second c && same x y)) _ (passed .distinct) .0) s (same-pos x y (signless .first) (signless .second) e);
         first-third = λ s e. third-apart s (rw (same-pos x z (signless .first) (signless .third) e) refl);
         second-third = λ s e. third-apart s (rw (same-pos y z (signless .second) (signless .third) e) (or-true (same x z)));
@@ -278,7 +287,10 @@ module _ (w b : ℕ) (code x y z t : ℤ) (h : faultOf w b code x y z t ≡ 0) w
 
 -- the gate's own five numbers are not refused
 abbrev pub Sound : ℕ → ℕ → Gate → Type 0
-Sound w b g = faultOf w b (pos (g .code)) (pos (g .first)) (pos (g .second)) (pos (g .third)) (g .turn) ≡ 0
+Sound w b g = faultOf w b (pos (g .code)) (pos (g .first)) (pos (g .second)) (pos (g .third)) (g .turn) .number ≡ 0
+
+pub sound-by : (w b : ℕ) (g : Gate) → firstOf (parts (λ f. f .number) (gateTests (g .code) w b (pos (g .first)) (pos (g .second)) (pos (g .third)) (g .turn))) 0 ≡ 0 → Sound w b g
+sound-by w b g e = fault-part (λ f. f .number) w b (pos (g .code)) (pos (g .first)) (pos (g .second)) (pos (g .third)) (g .turn) ∙ e
 
 unfoldable pub SoundAll : ℕ → ℕ → List Gate → Type 0
 SoundAll w b [] = Unit {0}
@@ -302,15 +314,15 @@ sound-at w b (g ∷ gs) (suc i) d h k = sound-at w b gs i d (h .1) (le-of-suc-le
 
 -- ---- the gates of an accepted list
 
-pub fit-at : (l : List ℤ) (w b i : ℕ) → faultAt l w b i ≡ 0 → Fit w b (gateAt l i .code) (gateAt l i .first) (gateAt l i .second) (gateAt l i .third) (gateAt l i .turn)
+pub fit-at : (l : List ℤ) (w b i : ℕ) → faultAt l w b i .number ≡ 0 → Fit w b (gateAt l i .code) (gateAt l i .first) (gateAt l i .second) (gateAt l i .third) (gateAt l i .turn)
 unfolding faultAt gateAt
 fit-at l w b i h = fit w b (field l i 0) (field l i 1) (field l i 2) (field l i 3) (field l i 4) h
 
-signless-at : (l : List ℤ) (w b i : ℕ) → faultAt l w b i ≡ 0 → Signless (field l i 0) (field l i 1) (field l i 2) (field l i 3)
+signless-at : (l : List ℤ) (w b i : ℕ) → faultAt l w b i .number ≡ 0 → Signless (field l i 0) (field l i 1) (field l i 2) (field l i 3)
 unfolding faultAt
 signless-at l w b i h = signless w b (field l i 0) (field l i 1) (field l i 2) (field l i 3) (field l i 4) h
 
-natural-at : (l : List ℤ) (w b i : ℕ) → faultAt l w b i ≡ 0 → Natural l i
+natural-at : (l : List ℤ) (w b i : ℕ) → faultAt l w b i .number ≡ 0 → Natural l i
 natural-at l w b i h k hk = go k hk (signless-at l w b i h)
   where
     go : (k : ℕ) → k < 4 → Signless (field l i 0) (field l i 1) (field l i 2) (field l i 3) → pos (natOf (field l i k)) ≡ field l i k
@@ -323,11 +335,11 @@ natural-at l w b i h k hk = go k hk (signless-at l w b i h)
 signless-fault : (w b : ℕ) (c x y z t : ℤ) → Signless c x y z → faultOf w b (pos (natOf c)) (pos (natOf x)) (pos (natOf y)) (pos (natOf z)) t ≡ faultOf w b c x y z t
 signless-fault w b c x y z t s = rw (s .code, s .first, s .second, s .third)
 
-pub sound-gate : (l : List ℤ) (w b i : ℕ) → faultAt l w b i ≡ 0 → Sound w b (gateAt l i)
+pub sound-gate : (l : List ℤ) (w b i : ℕ) → faultAt l w b i .number ≡ 0 → Sound w b (gateAt l i)
 unfolding faultAt gateAt
-sound-gate l w b i h = signless-fault w b (field l i 0) (field l i 1) (field l i 2) (field l i 3) (field l i 4) (signless-at l w b i h) ∙ h
+sound-gate l w b i h = ap (λ (f : Fault). f .number) (signless-fault w b (field l i 0) (field l i 1) (field l i 2) (field l i 3) (field l i 4) (signless-at l w b i h)) ∙ h
 
-sound-from : (l : List ℤ) (w b n i : ℕ) → ((j : ℕ) → j < n → faultAt l w b (i + j) ≡ 0) → SoundAll w b (gatesFrom l n i)
+sound-from : (l : List ℤ) (w b n i : ℕ) → ((j : ℕ) → j < n → faultAt l w b (i + j) .number ≡ 0) → SoundAll w b (gatesFrom l n i)
 unfolding SoundAll gatesFrom
 sound-from l w b zero i h = tt
 sound-from l w b (suc n) i h =
@@ -355,12 +367,12 @@ fault-after r l e w b i =
     let f : (k : ℕ) → field (r ++ l) (suc i) k ≡ field l i k = field-after r l e i in
     rw (f 0, f 1, f 2, f 3, f 4)
 
-pub sound-written : (w b : ℕ) (gs : List Gate) → SoundAll w b gs → (i : ℕ) → i < length gs → faultAt (numbersOf gs) w b i ≡ 0
+pub sound-written : (w b : ℕ) (gs : List Gate) → SoundAll w b gs → (i : ℕ) → i < length gs → faultAt (numbersOf gs) w b i .number ≡ 0
 unfolding SoundAll numbersOf faultAt
 sound-written w b [] h i k = absurd (not-suc-le-zero k)
 sound-written w b (g ∷ gs) h zero k = h .0
 sound-written w b (g ∷ gs) h (suc i) k =
-    fault-after (numbers g) (numbersOf gs) refl w b i ∙ sound-written w b gs (h .1) i (le-of-suc-le-suc k)
+    ap (λ (f : Fault). f .number) (fault-after (numbers g) (numbersOf gs) refl w b i) ∙ sound-written w b gs (h .1) i (le-of-suc-le-suc k)
 
 pub sound-accepted : (gs : List Gate) (w b out terms steps : ℕ) → SoundAll w b gs → length gs ≤ maxGates → w ≤ maxWires → b ≤ maxBits → width * length gs ≤ out
     → termEntries (length gs) ≤ terms / termWidth → stepEntries (length gs) ≤ steps / stepWidth → verdict (numbersOf gs) w b out terms steps ≡ accepted

@@ -1,11 +1,11 @@
--- Worked lists for the refusals 1 to 9 and for none, by computing: one table, one statement.
+-- Worked lists for the refusals 1 to 9 and 14 and for none, by computing: one table, one statement.
 use mathlib.Core.Path.{_≡_, refl}
 use mathlib.Core.List.{List, [], _∷_, _++_, map}
 use Prim.Native.Nat.{ℕ, _+_, _*_}
 use lib.IntN.{ℤ, pos, negsuc}
 use lib.ListN.{replicate}
 use Rattle.rules.specs.Limits.{width, maxGates, maxWires}
-use Rattle.rules.specs.Refusal.{Verdict, accepted, refused, whole, verdict}
+use Rattle.rules.specs.Refusal.{Verdict, accepted, tell, refuse, whole, verdict}
 
 -- a list on some wires and one bit, and what is said of it
 pub record Case : Type 0 where
@@ -27,8 +27,9 @@ t0 = gate 2 (pos 0) (pos 0) (pos 0) (pos 0)
 abbrev pub pair : List ℤ → Verdict → Case
 pair g v = record { list = t0 ++ g; wires = 2; out = 10; terms = 18; steps = 260; answer = v }
 
-abbrev pub second : ℕ → List ℤ → Case
-second k g = pair g (refused (record { number = k; place = 1 }))
+-- it is refused by that number, and in that field
+abbrev pub second : ℕ → ℕ → List ℤ → Case
+second number field g = pair g (refuse (tell number field) 1)
 
 abbrev pub cases : List Case
 cases =
@@ -44,12 +45,23 @@ cases =
     ∷ record { list = t0; wires = 2; out = 4; terms = 9; steps = 258; answer = whole 4 }
     ∷ record { list = t0; wires = 2; out = 5; terms = 8; steps = 258; answer = whole 5 }
     ∷ record { list = t0; wires = 2; out = 5; terms = 9; steps = 257; answer = whole 5 }
-    -- no such code; a turn on t; a wire and a bit out of range; a wire twice
-    ∷ second 6 (gate 28 (pos 0) (pos 0) (pos 0) (pos 0))
-    ∷ second 7 (gate 2 (pos 2) (pos 0) (pos 0) (pos 1))
-    ∷ second 8 (gate 8 (pos 2) (pos 2) (pos 0) (pos 0))
-    ∷ second 8 (gate 27 (pos 0) (pos 1) (pos 0) (pos 0))
-    ∷ second 9 (gate 8 (pos 1) (pos 1) (pos 0) (pos 0))
+    -- no such code; a turn on t, before a wire that isn't there; a second on x; an unused third of a cnot, before its wires
+    ∷ second 6 0 (gate 28 (pos 0) (pos 0) (pos 0) (pos 0))
+    ∷ second 7 0 (gate 2 (pos 2) (pos 0) (pos 0) (pos 1))
+    ∷ second 7 0 (gate 1 (pos 0) (pos 5) (pos 0) (pos 0))
+    ∷ second 7 0 (gate 8 (pos 5) (pos 5) (pos 1) (pos 0))
+    -- the first bad field from the left: a wire that isn't there, first, second and third
+    ∷ second 8 1 (gate 1 (pos 2) (pos 0) (pos 0) (pos 0))
+    ∷ second 8 1 (gate 8 (pos 2) (pos 2) (pos 0) (pos 0))
+    ∷ second 8 2 (gate 24 (pos 0) (negsuc 0) (pos 2) (pos 0))
+    ∷ second 8 3 (gate 24 (pos 0) (pos 1) (pos 2) (pos 0))
+    -- a bit that isn't there, and before it its wire
+    ∷ second 14 2 (gate 27 (pos 0) (pos 1) (pos 0) (pos 0))
+    ∷ second 14 2 (gate 27 (pos 1) (negsuc 0) (pos 0) (pos 0))
+    ∷ second 8 1 (gate 27 (pos 2) (pos 1) (pos 0) (pos 0))
+    -- a wire twice, behind all fields
+    ∷ second 9 0 (gate 8 (pos 1) (pos 1) (pos 0) (pos 0))
+    ∷ second 8 3 (gate 24 (pos 1) (pos 1) (pos 2) (pos 0))
     ∷ []
 
 pub worked : map (λ (c : Case). verdict (c .list) (c .wires) 1 (c .out) (c .terms) (c .steps)) cases ≡ map (λ (c : Case). c .answer) cases

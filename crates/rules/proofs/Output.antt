@@ -14,7 +14,7 @@ use borrow.Author.Tests.{lt-leb, lt-ltb, ne-eqb}
 use Rattle.rules.specs.Limits.{width}
 use Rattle.rules.specs.Gate.{Gate, from, gate1, gate2, codeX, codeT, codeTdg, codeS, codeSdg, codeZ, codeCnot}
 use Rattle.rules.specs.Numbers.{gatesOf, numbersOf}
-use Rattle.rules.specs.Refusal.{accepted, faultOf, verdict}
+use Rattle.rules.specs.Refusal.{accepted, verdict}
 use Rattle.rules.specs.Meaning.{Op, flip, phase, cnot, cz, other, opOf, op}
 use Rattle.rules.specs.Fold.{Row, Block, fresh, empty, joined, rowOf, addRow, join, entered, rowsBy, absorb, fold}
 use Rattle.rules.specs.Walk.{Step, cn, rot, held}
@@ -33,7 +33,7 @@ use Rattle.rules.proofs.Blocks.{sizeOf, walkOf, parities, walk-within, 
 use Rattle.rules.proofs.Total.{SaneOp, Sane, Found, synth-total}
 use Rattle.rules.proofs.Passing.{pieces-cut, chosen-thrifty, thrifty-le}
 use Rattle.rules.proofs.Reading.{gates-length}
-use Rattle.rules.proofs.Accepting.{Accepted, accepted-is, Fit, fit, Sound, SoundAll, sound-append, sound-parts, accepted-sound, sound-accepted}
+use Rattle.rules.proofs.Accepting.{Accepted, accepted-is, Fit, fit, Sound, sound-by, SoundAll, sound-append, sound-parts, accepted-sound, sound-accepted}
 
 -- ---- how a sound gate acts
 
@@ -128,22 +128,20 @@ below-at w (r ∷ rs) (suc i) h k = below-at w rs i (h .1) (le-of-suc-le-suc k)
 
 -- x, t, tdg, s, sdg and z
 pub sound-one : (w b c q : ℕ) → from 1 codeZ c ≡ true → q < w → Sound w b (gate1 c q)
-unfolding faultOf
 sound-one w b zero q e h = absurd (false≢true e)
-sound-one w b (suc zero) q e h = rw (lt-ltb q w h)
-sound-one w b (suc (suc zero)) q e h = rw (lt-ltb q w h)
-sound-one w b (suc (suc (suc zero))) q e h = rw (lt-ltb q w h)
-sound-one w b (suc (suc (suc (suc zero)))) q e h = rw (lt-ltb q w h)
-sound-one w b (suc (suc (suc (suc (suc zero))))) q e h = rw (lt-ltb q w h)
-sound-one w b (suc (suc (suc (suc (suc (suc zero)))))) q e h = rw (lt-ltb q w h)
+sound-one w b (suc zero) q e h = sound-by w b (gate1 1 q) (rw (lt-ltb q w h))
+sound-one w b (suc (suc zero)) q e h = sound-by w b (gate1 2 q) (rw (lt-ltb q w h))
+sound-one w b (suc (suc (suc zero))) q e h = sound-by w b (gate1 3 q) (rw (lt-ltb q w h))
+sound-one w b (suc (suc (suc (suc zero)))) q e h = sound-by w b (gate1 4 q) (rw (lt-ltb q w h))
+sound-one w b (suc (suc (suc (suc (suc zero))))) q e h = sound-by w b (gate1 5 q) (rw (lt-ltb q w h))
+sound-one w b (suc (suc (suc (suc (suc (suc zero)))))) q e h = sound-by w b (gate1 6 q) (rw (lt-ltb q w h))
 sound-one w b (suc (suc (suc (suc (suc (suc (suc c))))))) q e h = absurd (other-code (suc (suc (suc (suc (suc (suc (suc c))))))) (omega arith) e)
   where
     other-code : (n : ℕ) → codeZ < n → from 1 codeZ n ≡ true → ⊥
     other-code n l f = false≢true (sym (and-false (leb 1 n)) ∙ rw (lt-leb n codeZ l) at f)
 
 pub sound-cnot : (w b p q : ℕ) → p < w → q < w → p ≢ q → Sound w b (gate2 codeCnot p q)
-unfolding faultOf
-sound-cnot w b p q hp hq ne = rw (lt-ltb p w hp, lt-ltb q w hq, ne-eqb p q ne)
+sound-cnot w b p q hp hq ne = sound-by w b (gate2 codeCnot p q) (rw (lt-ltb p w hp, lt-ltb q w hq, ne-eqb p q ne))
 
 pub sound-rotation : (w b k q : ℕ) → q < w → SoundAll w b (rotation k q)
 unfolding SoundAll rotation

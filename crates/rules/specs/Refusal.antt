@@ -1,4 +1,4 @@
--- The refusals 1 to 9, exactly when each is given, and in their order.
+-- The refusals 1 to 9 and 14, exactly when each is given, and in their order.
 use mathlib.Core.Bool.{Bool, not, _&&_, _||_, cond}
 use mathlib.Core.List.{List, [], _∷_}
 use Prim.Native.Nat.{ℕ, zero, suc, _/_, _%_}
@@ -9,27 +9,40 @@ use Rattle.rules.specs.Limits.{width, lastCode, maxGates, maxWires, maxB
 use Rattle.rules.specs.Gate.{from, second, bitted, third, turned}
 use Rattle.rules.specs.Numbers.{natOf, inside, same, field}
 
--- a refusal returns number and place
+-- a refusal returns number and place, and the field that is wrong: 1 first, 2 second, 3 third; 0 where it names none
 pub record Refusal : Type 0 where
   pub number : ℕ
   pub place : ℕ
+  pub field : ℕ
 
 pub data Verdict : Type 0 where
   accepted : Verdict
   refused : Refusal → Verdict
 
--- tests in their order, each with the number that it gives where it fails: the first of these, or 0 where none fails
-abbrev pub firstOf : List (Bool × ℕ) → ℕ
-firstOf [] = 0
-firstOf (c ∷ cs) = cond (c .0) (c .1) (firstOf cs)
+-- what a test that fails tells, wherever it stands
+pub record Fault : Type 0 where
+  pub number : ℕ
+  pub field : ℕ
+
+abbrev pub tell : ℕ → ℕ → Fault
+tell number field = record { number = number; field = field }
+
+-- no test fails
+abbrev pub none : Fault
+none = tell 0 0
+
+-- tests in their order, each with what it gives where it fails: the first of these, or what comes else where none fails
+abbrev pub firstOf : {A : Type 0} → List (Bool × A) → A → A
+firstOf [] else = else
+firstOf (test ∷ others) else = let later = firstOf others else in cond (test .0) (test .1) later
 
 -- every refusal is made here
-abbrev pub refuse : ℕ → ℕ → Verdict
-refuse number place = refused (record { number = number; place = place })
+abbrev pub refuse : Fault → ℕ → Verdict
+refuse f place = refused (record { number = f .number; place = place; field = f .field })
 
--- refused by that number, at a place; where it is 0, the rest decides
-abbrev pub ruled : ℕ → ℕ → Verdict → Verdict
-ruled number place rest = cond (eqb number 0) rest (refuse number place)
+-- refused by that fault, at a place; where its number is 0, the rest decides
+abbrev pub ruled : Fault → ℕ → Verdict → Verdict
+ruled f place rest = cond (eqb (f .number) 0) rest (refuse f place)
 
 -- ---- one gate: code c, fields x, y, z and turn t, on w wires and b classical bits
 
@@ -40,39 +53,38 @@ nought z = same z (pos 0)
 abbrev pub unused : ℕ → ℤ → ℤ → ℤ → Bool
 unused c y z t = (second c || (bitted c || nought y)) && ((third c || nought z) && (turned c || nought t))
 
--- not 8: each wire is one of 0 to w - 1, a measure's bit one of 0 to b - 1
-abbrev pub ranged : ℕ → ℕ → ℕ → ℤ → ℤ → ℤ → Bool
-ranged c w b x y z = inside x w && ((not (second c) || inside y w) && ((not (bitted c) || inside y b) && (not (third c) || inside z w)))
-
 -- not 9: no wire stands twice. A measure's bit may equal its wire
 abbrev pub apart : ℕ → ℤ → ℤ → ℤ → Bool
 apart c x y z = not (second c && same x y) && not (third c && (same x z || same y z))
 
--- the refusal of a gate of code c, or 0 for none
-abbrev pub gateFault : ℕ → ℕ → ℕ → ℤ → ℤ → ℤ → ℤ → ℕ
-gateFault c w b x y z t =
-    firstOf
-    ((not (from 1 lastCode c), 6)
-    ∷ (not (unused c y z t), 7)
-    ∷ (not (ranged c w b x y z), 8)
-    ∷ (not (apart c x y z), 9)
-    ∷ [])
+-- the tests of a gate of code c: 6, 7, then its fields from left to right, then 9. A wire that isn't one of 0 to w - 1 is 8,
+-- a measure's bit that isn't one of 0 to b - 1 is 14; these two name their field
+abbrev pub gateTests : ℕ → ℕ → ℕ → ℤ → ℤ → ℤ → ℤ → List (Bool × Fault)
+gateTests c w b x y z t =
+    (not (from 1 lastCode c), tell 6 0)
+    ∷ (not (unused c y z t), tell 7 0)
+    ∷ (not (inside x w), tell 8 1)
+    ∷ (second c && not (inside y w), tell 8 2)
+    ∷ (bitted c && not (inside y b), tell 14 2)
+    ∷ (third c && not (inside z w), tell 8 3)
+    ∷ (not (apart c x y z), tell 9 0)
+    ∷ []
 
--- a code below 1 reads as 0
-unfoldable pub faultOf : ℕ → ℕ → ℤ → ℤ → ℤ → ℤ → ℤ → ℕ
-faultOf w b code x y z t = gateFault (natOf code) w b x y z t
+-- what is wrong with a gate. A code below 1 reads as 0
+unfoldable pub faultOf : ℕ → ℕ → ℤ → ℤ → ℤ → ℤ → ℤ → Fault
+faultOf w b code x y z t = firstOf (gateTests (natOf code) w b x y z t) none
 
-unfoldable pub faultAt : List ℤ → ℕ → ℕ → ℕ → ℕ
+unfoldable pub faultAt : List ℤ → ℕ → ℕ → ℕ → Fault
 unfolding faultOf
 faultAt l w b i = faultOf w b (field l i 0) (field l i 1) (field l i 2) (field l i 3) (field l i 4)
 
 -- ---- the list
 
--- a refusal of the list as a whole has the place 0
+-- a refusal of the list as a whole has the place 0, and names no field
 abbrev pub whole : ℕ → Verdict
-whole k = refuse k zero
+whole k = refuse (tell k 0) zero
 
--- the refusal of n numbers as g gates, before any gate is looked at, or 0 for none. The rooms are given by how many numbers they hold
+-- the number of the refusal of n numbers as g gates, before any gate is looked at, or 0 for none. The rooms are given by how many numbers they hold
 abbrev pub wholeFault : ℕ → ℕ → ℕ → ℕ → ℕ → ℕ → ℕ → ℕ
 wholeFault n g w b out terms steps =
     firstOf
@@ -82,6 +94,7 @@ wholeFault n g w b out terms steps =
     ∷ (ltb out n, 4)
     ∷ (ltb (terms / termWidth) (termEntries g) || ltb (steps / stepWidth) (stepEntries g), 5)
     ∷ [])
+    0
 
 -- n gates from place i on, in list order; the place is the gate's index
 unfoldable pub faultsFrom : List ℤ → ℕ → ℕ → ℕ → ℕ → Verdict
@@ -97,4 +110,4 @@ unfolding faultsFrom
 verdict l w b out terms steps =
     let g = length l / width in
     let rest = faultsFrom l w b g zero in
-    ruled (wholeFault (length l) g w b out terms steps) zero rest
+    ruled (tell (wholeFault (length l) g w b out terms steps) 0) zero rest

@@ -32,7 +32,7 @@ module _ (h : Head) (ns : List ℤ) where
 
   -- the rooms are never too short
   pub right-exact : width * (length ns / width) ≡ length ns → length ns / width ≤ maxGates → h .wires ≤ maxWires → h .bits ≤ maxBits
-      → ((i : ℕ) → i < length ns / width → faultAt ns (h .wires) (h .bits) i ≡ 0) → exact h ns ≡ accepted
+      → ((i : ℕ) → i < length ns / width → faultAt ns (h .wires) (h .bits) i .number ≡ 0) → exact h ns ≡ accepted
   unfolding exact
   right-exact whole few wires bits each =
       is-accepted ns (h .wires) (h .bits) (length ns) terms steps

@@ -25,7 +25,7 @@ use Rattle.reading.specs.declared.Read.the-variants.{Good}
 use Rattle.saying.specs.Answer.{Next, refusal, exact, judged, checked, readAs, answerBy}
 use Rattle.saying.specs.Contracts.{Held}
 
-pub answer-long : (next : Next) (text : List ℕ) → listBytes < length text → answerBy next text ≡ refusal 10 0
+pub answer-long : (next : Next) (text : List ℕ) → listBytes < length text → answerBy next text ≡ refusal 10 0 0
 unfolding answerBy
 answer-long next text h = rw (lt-ltb listBytes (length text) h)
 

@@ -1,12 +1,12 @@
 -- Answers to texts: a refusal, and what a list's text comes to before the program makes anything of it.
-use mathlib.Core.Bool.{Bool, true, false, cond}
+use mathlib.Core.Bool.{Bool, true, false}
 use mathlib.Core.List.{List, [], _∷_}
 use Prim.Native.Nat.{ℕ, _*_, _/_}
 use lib.Dec.{ltb}
 use lib.IntN.{ℤ}
 use lib.ListN.{length}
 use Rattle.rules.specs.Limits.{width, termWidth, stepWidth, termEntries, stepEntries}
-use Rattle.rules.specs.Refusal.{Verdict, accepted, refused, verdict}
+use Rattle.rules.specs.Refusal.{Verdict, accepted, refused, firstOf, verdict}
 use Rattle.spelling.specs.Sizes.{listBytes, listGates}
 use Rattle.spelling.specs.Texts.{Head, refusalText}
 use Rattle.spelling.specs.Reading.{Read, malformed, many, read, readText}
@@ -19,22 +19,17 @@ pub record Answer : Type 0 where
 abbrev pub answered : List ℕ → Answer
 answered text = record { refused = false; text = text }
 
--- a refusal's number and place
-abbrev pub refusal : ℕ → ℕ → Answer
-refusal number place = record { refused = true; text = refusalText (number ∷ place ∷ []) }
-
--- refusals in their order: the first whose test holds; where none does, what comes else
-abbrev pub firstOf : {R : Type 0} → List (Bool × R) → R → R
-firstOf [] else = else
-firstOf (test ∷ others) else = let later = firstOf others else in cond (test .0) (test .1) later
+-- a refusal's number, place and field; the programs' own name no field, which is 0
+abbrev pub refusal : ℕ → ℕ → ℕ → Answer
+refusal number place field = record { refused = true; text = refusalText (number ∷ place ∷ field ∷ []) }
 
 -- 10: a text above 16,384 bytes, before anything is read
 abbrev pub unlessLong : List ℕ → Answer → Answer
-unlessLong text else = firstOf ((ltb listBytes (length text), refusal 10 0) ∷ []) else
+unlessLong text else = firstOf ((ltb listBytes (length text), refusal 10 0 0) ∷ []) else
 
 -- ---- a list's text
 
--- a list that was read gets rooms exactly as long as it needs: only 3, and 6 to 9 with the gate's index, can come
+-- a list that was read gets rooms exactly as long as it needs: only 3, and 6 to 9 and 14 with the gate's index, can come
 -- (`three-or-gates` among the proofs of `spelling`)
 unfoldable pub exact : Head → List ℤ → Verdict
 unfolding verdict
@@ -47,16 +42,16 @@ abbrev pub Next : Type 0
 Next = Head → List ℤ → Answer
 
 abbrev pub judged : Answer → Verdict → Answer
-judged else (refused r) = refusal (r .number) (r .place)
+judged else (refused r) = refusal (r .number) (r .place) (r .field)
 judged else accepted = else
 
 -- 11: a malformed, missing or surplus line, by its number; 12: more than 512 gates, by the line of `gates`
 abbrev pub readAs : Next → Read → Answer
-readAs next (malformed line) = refusal 11 line
-readAs next (many line) = refusal 12 line
+readAs next (malformed line) = refusal 11 line 0
+readAs next (many line) = refusal 12 line 0
 readAs next (read h numbers) = next h numbers
 
--- 10, then line by line, then 3 and 6 to 9; then what the program says of an accepted list
+-- 10, then line by line, then 3, then gate by gate; then what the program says of an accepted list
 abbrev pub checked : Next → Head → List ℤ → Answer
 checked next h numbers = judged (next h numbers) (exact h numbers)
 

@@ -23,11 +23,12 @@ pub enum Taken {
     Good(Head, usize),
 }
 
-pub fn refuse(out: &mut [u8], number: u32, place: u32) -> Said
+// Number, place and field.
+pub fn refuse(out: &mut [u8], number: u32, place: u32, field: u32) -> Said
     requires { ⌜ answerBytes ≤ length (now out) ⌝ }
-    ensures { λ r. ⌜ Says (refusal number place) (now (out .entry)) r (now (out .exit)) ⌝ }
+    ensures { λ r. ⌜ Says (refusal number place field) (now (out .entry)) r (now (out .exit)) ⌝ }
 {
-    let numbers = [number, place];
+    let numbers = [number, place, field];
     Said {
         length: printing::write_refusal(out, 0, &numbers),
         refused: true,
@@ -41,11 +42,11 @@ pub fn take(text: &[u8], numbers: &mut [i32], out: &mut [u8]) -> Taken
     ensures { λ r. ⌜ Takes (now (text .entry)) (now (out .entry)) (now (numbers .exit)) r (now (out .exit)) ⌝ }
 {
     if LIST_BYTES < text.len() {
-        return Taken::Refused(refuse(out, 10, 0));
+        return Taken::Refused(refuse(out, 10, 0, 0));
     }
     match reading::read_text(text, LIST_GATES, numbers) {
-        Read::Malformed(line) => Taken::Refused(refuse(out, 11, line as u32)),
-        Read::Many(line) => Taken::Refused(refuse(out, 12, line as u32)),
+        Read::Malformed(line) => Taken::Refused(refuse(out, 11, line as u32, 0)),
+        Read::Many(line) => Taken::Refused(refuse(out, 12, line as u32, 0)),
         Read::Good(head, n) => Taken::Good(head, n),
     }
 }

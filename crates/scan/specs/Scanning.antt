@@ -34,7 +34,7 @@ pub record Checked (l : List ℤ) (w : ℕ) : Type 0 where
   pub exact : Exact l
   pub few : gatesIn l ≤ maxGates
   pub wires : w ≤ maxWires
-  pub each : (i : ℕ) → i < gatesIn l → faultAt l w bits i ≡ 0
+  pub each : (i : ℕ) → i < gatesIn l → faultAt l w bits i .number ≡ 0
 
 -- no wire has joined
 abbrev pub Unjoined : List ℕ → Type 0

@@ -49,6 +49,6 @@ example : resultText one (pos 4 ∷ pos 0 ∷ pos 0 ∷ pos 0 ∷ pos 0 ∷ []) 
 unfolding resultText
 example = refl
 
-refusal : refusalText (12 ∷ 6 ∷ []) ≡ bytes "refused 12 6\n"
+refusal : refusalText (12 ∷ 6 ∷ 0 ∷ []) ≡ bytes "refused 12 6 0\n"
 unfolding refusalText
 refusal = refl

@@ -1,4 +1,4 @@
--- Of a text that was read, the list itself is refused by 3 or by 6 to 9 only: 1, 2, 4 and 5 can't come. And 12 is said of line 6.
+-- Of a text that was read, the list itself is refused by 3 or by a gate only: 1, 2, 4 and 5 can't come. And 12 is said of line 6.
 use mathlib.Core.Path.{_≡_, refl, subst}
 use mathlib.Core.Bool.{true, false, _||_, cond}
 use mathlib.Core.List.{List, [], _∷_}

@@ -2,9 +2,9 @@
 use mathlib.Core.Path.{_≡_, sym, ap, _∙_}
 use native.Mathlib.Omega.{arith}
 use borrow.Author.Needs.{needs}
-use Rattle.rules.specs.Refusal.{accepted, refuse}
+use Rattle.rules.specs.Refusal.{accepted, refused}
 use Rattle.rules.proofs.Accepting.{placeOf}
-use Rattle.gate.specs.Verdicts.{verdictOf}
+use Rattle.gate.specs.Verdicts.{refusalOf, verdictOf}
 use Rattle.spelling.specs.Heads.{headOf}
 use Rattle.saying.specs.Answer.{exact}
 use Rattle.saying.proofs.Checking.{exact-is, exact-place, exact-fits}
@@ -12,7 +12,7 @@ use Rattle.export.proofs.check.Statement.{statement}
 use Rattle.export.proofs.check.Tie as tie
 
 -- the two cases of the check
-denied : (c : tie.After-verdict) → let s = c .before .before .before .before .before .before in let r = c .verdict .given .0 .0 in exact (headOf (s .args .head)) (s .args .numbers .now) ≡ refuse (r .number) (r .place)
+denied : (c : tie.After-verdict) → let s = c .before .before .before .before .before .before in let r = c .verdict .given .0 .0 in exact (headOf (s .args .head)) (s .args .numbers .now) ≡ refused (refusalOf r)
 denied c = exact-is _ _ ∙ sym (c .before .before .check-list .ensures) ∙ ap verdictOf (c .verdict .given .1)
 
 taken : (c : tie.After-enum-told) → let s = c .before .before .before .before .before .before in exact (headOf (s .args .head)) (s .args .numbers .now) ≡ accepted

@@ -4,7 +4,7 @@ use Prim.Native.Nat.{ℕ, zero, _/_}
 use borrow.Author.Needs.{needs}
 use lib.ListN.{length}
 use Rattle.rules.specs.Limits.{width}
-use Rattle.rules.specs.Refusal.{refuse, wholeFault, faultsFrom, verdict}
+use Rattle.rules.specs.Refusal.{tell, refuse, wholeFault, faultsFrom, verdict}
 use Rattle.gate.specs.Verdicts.{verdictOf}
 use Rattle.gate.proofs.First.{ruled-some, ruled-none}
 use Rattle.gate.proofs.check_list.Statement.{statement}
@@ -35,9 +35,9 @@ returns c =
     let l = a .list .now in
     let f = wholeFault (length l) (length l / width) (a .wires) (a .bits) (a .out) (a .terms) (a .steps) in
     let k : c .before .before .first-of .result ≡ f = c .before .before .first-of .ensures in
-    let r : verdictOf (c .refused .result) ≡ refuse (c .before .before .first-of .result) zero = c .refused .ensures in
-    r ∙ ap (λ (n : ℕ). refuse n zero) k
-    ∙ sym (ruled-some f zero (faultsFrom l (a .wires) (a .bits) (length l / width) zero) (λ e. c .before .if1 .taken (k ∙ e)))
+    let r : verdictOf (c .refused .result) ≡ refuse (tell (c .before .before .first-of .result) 0) zero = c .refused .ensures in
+    r ∙ ap (λ (n : ℕ). refuse (tell n 0) zero) k
+    ∙ sym (ruled-some (tell f 0) zero (faultsFrom l (a .wires) (a .bits) (length l / width) zero) (λ e. c .before .if1 .taken (k ∙ e)))
 
 check-gates-requires : tie.Need-check-gates-requires
 check-gates-requires c κs = search needs
@@ -49,7 +49,7 @@ returns-2 c =
     let l = a .list .now in
     let f = wholeFault (length l) (length l / width) (a .wires) (a .bits) (a .out) (a .terms) (a .steps) in
     let k : c .before .before .first-of .result ≡ f = c .before .before .first-of .ensures in
-    c .check-gates .ensures ∙ sym (ruled-none f zero (faultsFrom l (a .wires) (a .bits) (length l / width) zero) (sym k ∙ c .before .if1 .left))
+    c .check-gates .ensures ∙ sym (ruled-none (tell f 0) zero (faultsFrom l (a .wires) (a .bits) (length l / width) zero) (sym k ∙ c .before .if1 .left))
 
 pub check-list-spec : {M : Type 1} → statement M
 check-list-spec =

@@ -8,10 +8,10 @@ use Rattle.gate.proofs.first_of.Statement.{statement}
 use Rattle.gate.proofs.first_of.Tie as tie
 
 abbrev Inv-loop : tie.InvT-loop
-Inv-loop fails numbers i₀ i = (i ≤ length fails) × Passed fails i
+Inv-loop fails gives i₀ i = (i ≤ length fails) × Passed fails i
 
 abbrev μ-loop : tie.MeasureT-loop
-μ-loop fails numbers i₀ i = length fails - i
+μ-loop fails gives i₀ i = length fails - i
 
 loop-holds : tie.Need-loop-holds Inv-loop μ-loop
 loop-holds c = (omega arith, λ j h. absurd (omega arith))
@@ -26,7 +26,7 @@ returns : tie.Need-returns Inv-loop μ-loop
 returns c =
     let a = c .before .before .before .before .before .args in
     let at = c .before .before .before .before .loop in
-    sym (first-at (a .fails .now) (a .numbers .now) (at .i) (omega arith) (omega arith) (at .inv .1) (c .before .if1 .taken))
+    sym (first-at (a .fails .now) (a .gives .now) (at .i) (omega arith) (omega arith) (at .inv .1) (c .before .if1 .taken))
 
 add-i : tie.Need-add-i Inv-loop μ-loop
 add-i c = omega arith
@@ -42,7 +42,7 @@ loop-again c =
 returns-2 : tie.Need-returns-2 Inv-loop μ-loop
 returns-2 c =
     let a = c .before .before .args in
-    sym (first-none (a .fails .now) (a .numbers .now) (λ j h. c .before .loop .inv .1 j (omega arith)))
+    sym (first-none (a .fails .now) (a .gives .now) (λ j h. c .before .loop .inv .1 j (omega arith)))
 
 pub first-of-spec : {M : Type 1} → statement M
 first-of-spec =

@@ -16,7 +16,7 @@ same-length : tie.Need-same-length
 same-length c = search needs
 
 returns : tie.Need-returns
-returns c = says-printed _ (namedSize 7 2) _ _ _ _ (omega (arith, c .before .before .before .before .before .before .pre)) (c .before .before .write-refusal .ensures)
+returns c = says-printed _ (namedSize 7 3) _ _ _ _ (omega (arith, c .before .before .before .before .before .before .pre)) (c .before .before .write-refusal .ensures)
 
 pub refuse-spec : {M : Type 1} → statement M
 refuse-spec = tie.close (tie.spec slice-aggregate-write-refusal write-refusal-requires same-length returns)

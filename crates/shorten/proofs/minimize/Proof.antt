@@ -6,7 +6,8 @@ use borrow.Author.Needs.{needs}
 use lib.ListN.{length, take}
 use lib.Seq.{length-take-le}
 use Rattle.rules.specs.Limits.{width}
-use Rattle.rules.specs.Refusal.{accepted, refuse}
+use Rattle.rules.specs.Refusal.{accepted, refused}
+use Rattle.gate.specs.Verdicts.{refusalOf}
 use Rattle.cnot_min.specs.declared.Answer.{Answer}
 use Rattle.spelling.specs.Heads.{headOf}
 use Rattle.saying.proofs.Saying.{says-printed}
@@ -22,7 +23,7 @@ never : {P : Type 0} (c : tie.After-r) → P
 never c =
     let s = c .before .before .before .before .before .before in
     let d = subst (λ (a : Answer). Fits (headOf (s .args .head)) (s .args .numbers .now) a (c .before .before .before .minimize .last .1 .1 .0)) (c .r .given .1) (c .before .before .before .minimize .ensures) in
-    let e : refuse (c .r .given .0 .0 .number) (c .r .given .0 .0 .place) ≡ accepted = sym (d .is) ∙ s .pre .1 .0 in
+    let e : refused (refusalOf (c .r .given .0 .0)) ≡ accepted = sym (d .is) ∙ s .pre .1 .0 in
     let z : _≡_ {A = ℕ} 0 1 = cc in
     absurd (omega arith)
 

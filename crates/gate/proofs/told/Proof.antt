@@ -1,0 +1,92 @@
+-- `gate::told` meets its contract.
+use mathlib.Core.Path.{_≡_, sym, ap, _∙_}
+use mathlib.Core.Bool.{Bool}
+use mathlib.Core.List.{List}
+use mir.ValLaws.{toZ-ofZ}
+use mir.Syntax.{w32}
+use Rattle.rules.specs.Numbers.{natOf}
+use Rattle.rules.specs.Refusal.{firstOf}
+use Rattle.gate.specs.Numbered.{numbered, failing}
+use Rattle.gate.proofs.Faultless.{plain-faultless}
+use Rattle.gate.proofs.First.{none-fails}
+use borrow.Author.Needs.{needs}
+use Rattle.gate.proofs.told.Statement.{statement}
+use Rattle.gate.proofs.told.Tie as tie
+
+nat-requires : tie.Need-nat-requires
+nat-requires c κs = search needs
+
+plain-requires : tie.Need-plain-requires
+plain-requires c κs = search needs
+
+returns : tie.Need-returns
+unfolding failing
+returns c =
+    let s = c .before .before .before .before in
+    let a = s .args in
+    let e = plain-faultless (natOf (a .code)) (a .wires) (a .bits) (a .x) (a .y) (a .z) (a .t)
+    (cc (toZ-ofZ w32 (a .code) (s .fits .code), toZ-ofZ w32 (a .x) (s .fits .x), toZ-ofZ w32 (a .y) (s .fits .y), toZ-ofZ w32 (a .z) (s .fits .z), toZ-ofZ w32 (a .t) (s .fits .t), c .if1 .taken)) in
+    sym (ap (λ (fs : List Bool). firstOf (numbered fs (a .gives .now)) 0) e ∙ none-fails 7 (a .gives .now))
+
+from-requires : tie.Need-from-requires
+from-requires c κs = search needs
+
+unused-requires : tie.Need-unused-requires
+unused-requires c κs = search needs
+
+inside-requires : tie.Need-inside-requires
+inside-requires c κs = search needs
+
+second-requires : tie.Need-second-requires
+second-requires c κs = search needs
+
+inside-requires-2 : tie.Need-inside-requires-2
+inside-requires-2 c κs = search needs
+
+bitted-requires : tie.Need-bitted-requires
+bitted-requires c κs = search needs
+
+inside-requires-3 : tie.Need-inside-requires-3
+inside-requires-3 c κs = search needs
+
+third-requires : tie.Need-third-requires
+third-requires c κs = search needs
+
+inside-requires-4 : tie.Need-inside-requires-4
+inside-requires-4 c κs = search needs
+
+apart-requires : tie.Need-apart-requires
+apart-requires c κs = search needs
+
+slice-aggregate-first-of : tie.Need-slice-aggregate-first-of
+slice-aggregate-first-of c = search needs
+
+first-of-requires : tie.Need-first-of-requires
+first-of-requires c κs = search needs
+
+returns-2 : tie.Need-returns-2
+unfolding failing
+returns-2 c =
+    let s = c .before .before .before .before .before .before .before .before .before .before .before .before .before .before .before .before in
+    cc (toZ-ofZ w32 (s .args .code) (s .fits .code), toZ-ofZ w32 (s .args .x) (s .fits .x), toZ-ofZ w32 (s .args .y) (s .fits .y), toZ-ofZ w32 (s .args .z) (s .fits .z), toZ-ofZ w32 (s .args .t) (s .fits .t))
+
+pub told-spec : {M : Type 1} → statement M
+told-spec =
+    tie.close
+    (tie.spec
+    nat-requires
+    plain-requires
+    returns
+    from-requires
+    unused-requires
+    inside-requires
+    second-requires
+    inside-requires-2
+    bitted-requires
+    inside-requires-3
+    third-requires
+    inside-requires-4
+    apart-requires
+    slice-aggregate-first-of
+    first-of-requires
+    returns-2)
