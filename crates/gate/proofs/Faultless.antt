@@ -1,23 +1,35 @@
--- A plain gate fails no test.
+-- The flags of a gate's tests: as the code makes them; and a plain gate fails none.
 use mathlib.Core.Path.{_≡_, sym}
 use mathlib.Core.Bool.{Bool, true, false, not, _&&_, _||_, false≢true}
-use mathlib.Core.List.{List}
+use mathlib.Core.List.{List, [], _∷_}
 use Prim.Native.Nat.{ℕ, _≤_}
 use native.Mathlib.Omega.{arith}
 use borrow.Author.Tests.{le-leb, lt-leb, leb-true, ne-eqb, not-true}
 use lib.Dec.{eqb, leb}
 use lib.IntN.{ℤ}
 use lib.ListN.{replicate}
-use Rattle.rules.specs.Gate.{from, codeX, codeRz, codeCnot, codeCz}
-use Rattle.rules.specs.Numbers.{inside, same}
-use Rattle.rules.specs.Refusal.{nought, gateTests}
+use Rattle.rules.specs.Limits.{lastCode}
+use Rattle.rules.specs.Gate.{from, second, bitted, third, codeX, codeRz, codeCnot, codeCz}
+use Rattle.rules.specs.Numbers.{natOf, inside, same}
+use Rattle.rules.specs.Refusal.{nought, unused, apart, gateTests}
 use Rattle.rules.proofs.Bits.{split, and-left, and-right}
 use Rattle.gate.specs.Plain.{single, paired, plain}
-use Rattle.gate.specs.Numbered.{flags}
+use Rattle.gate.specs.Numbered.{flags, failing}
 
 or-right : (a b : Bool) → a ≡ false → (a || b) ≡ true → b ≡ true
 or-right true b e h = absurd (false≢true (sym e))
 or-right false b e h = h
+
+pub flags-by : (w b : ℕ) (code x y z t : ℤ) (c : ℕ) {coded free one two wire bit inner three last distinct : Bool} → c ≡ natOf code
+    → coded ≡ from 1 lastCode c → free ≡ unused c y z t → one ≡ inside x w → two ≡ second c → wire ≡ inside y w → bit ≡ bitted c → inner ≡ inside y b
+    → three ≡ third c → last ≡ inside z w → distinct ≡ apart c x y z
+    → (not coded ∷ not free ∷ not one ∷ (two && not wire) ∷ (bit && not inner) ∷ (three && not last) ∷ not distinct ∷ []) ≡ failing w b code x y z t
+unfolding failing
+flags-by w b code x y z t c e e1 e2 e3 e4 e5 e6 e7 e8 e9 e10 = rw (e1, e2, e3, e4, e5, e6, e7, e8, e9, e10, e)
+
+-- of the same numbers
+pub failing-by : (w b : ℕ) {code x y z t code′ x′ y′ z′ t′ : ℤ} → code ≡ code′ → x ≡ x′ → y ≡ y′ → z ≡ z′ → t ≡ t′ → failing w b code x y z t ≡ failing w b code′ x′ y′ z′ t′
+failing-by w b e1 e2 e3 e4 e5 = rw (e1, e2, e3, e4, e5)
 
 -- each of the seven
 abbrev pub pass : List Bool

@@ -1,5 +1,5 @@
 -- The first of some tests that fails, by its place; and what is then wrong with a gate.
-use mathlib.Core.Path.{_≡_, refl, sym}
+use mathlib.Core.Path.{_≡_, refl, sym, _∙_}
 use mathlib.Core.Logic.{_≢_}
 use mathlib.Core.Bool.{Bool, true, false}
 use mathlib.Core.List.{List, [], _∷_}
@@ -46,10 +46,10 @@ none-fails (suc n) (k ∷ ns) = none-fails n ns
 
 -- ---- a gate's fault, by a part of it that each test gives
 
-pub part-at : (f : Fault → ℕ) (l : List ℤ) (w b i : ℕ)
-    → firstOf (parts f (gateTests (natOf (field l i 0)) w b (field l i 1) (field l i 2) (field l i 3) (field l i 4))) (f none) ≡ f (faultAt l w b i)
+pub part-at : (f : Fault → ℕ) (l : List ℤ) (w b i r : ℕ)
+    → r ≡ firstOf (parts f (gateTests (natOf (field l i 0)) w b (field l i 1) (field l i 2) (field l i 3) (field l i 4))) (f none) → r ≡ f (faultAt l w b i)
 unfolding faultAt
-part-at f l w b i = sym (fault-part f w b (field l i 0) (field l i 1) (field l i 2) (field l i 3) (field l i 4))
+part-at f l w b i r e = e ∙ sym (fault-part f w b (field l i 0) (field l i 1) (field l i 2) (field l i 3) (field l i 4))
 
 -- ---- what a fault decides
 

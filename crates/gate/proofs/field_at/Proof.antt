@@ -1,5 +1,4 @@
 -- `gate::field_at` meets its contract.
-use mathlib.Core.Path.{_∙_}
 use borrow.Author.Needs.{needs}
 use Rattle.gate.specs.Numbered.{failing}
 use Rattle.gate.proofs.First.{part-at}
@@ -16,7 +15,7 @@ returns : tie.Need-returns
 unfolding failing
 returns c =
     let a = c .before .before .args in
-    c .told-at .ensures ∙ part-at (λ f. f .field) (a .list .now) (a .wires) (a .bits) (a .i)
+    part-at (λ f. f .field) (a .list .now) (a .wires) (a .bits) (a .i) (c .told-at .result) (c .told-at .ensures)
 
 pub field-at-spec : {M : Type 1} → statement M
 field-at-spec = tie.close (tie.spec slice-aggregate-told-at told-at-requires returns)

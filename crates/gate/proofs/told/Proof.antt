@@ -4,10 +4,11 @@ use mathlib.Core.Bool.{Bool}
 use mathlib.Core.List.{List}
 use mir.ValLaws.{toZ-ofZ}
 use mir.Syntax.{w32}
+use mir.Val.{toZ, ofZ}
 use Rattle.rules.specs.Numbers.{natOf}
 use Rattle.rules.specs.Refusal.{firstOf}
 use Rattle.gate.specs.Numbered.{numbered, failing}
-use Rattle.gate.proofs.Faultless.{plain-faultless}
+use Rattle.gate.proofs.Faultless.{flags-by, failing-by, plain-faultless}
 use Rattle.gate.proofs.First.{none-fails}
 use borrow.Author.Needs.{needs}
 use Rattle.gate.proofs.told.Statement.{statement}
@@ -65,10 +66,29 @@ first-of-requires : tie.Need-first-of-requires
 first-of-requires c κs = search needs
 
 returns-2 : tie.Need-returns-2
-unfolding failing
 returns-2 c =
     let s = c .before .before .before .before .before .before .before .before .before .before .before .before .before .before .before .before in
-    cc (toZ-ofZ w32 (s .args .code) (s .fits .code), toZ-ofZ w32 (s .args .x) (s .fits .x), toZ-ofZ w32 (s .args .y) (s .fits .y), toZ-ofZ w32 (s .args .z) (s .fits .z), toZ-ofZ w32 (s .args .t) (s .fits .t))
+    let a = s .args in
+    let code = toZ-ofZ w32 (a .code) (s .fits .code) in
+    let x = toZ-ofZ w32 (a .x) (s .fits .x) in
+    let y = toZ-ofZ w32 (a .y) (s .fits .y) in
+    let z = toZ-ofZ w32 (a .z) (s .fits .z) in
+    let t = toZ-ofZ w32 (a .t) (s .fits .t) in
+    c .first-of .ensures
+    ∙ ap (λ (fs : List Bool). firstOf (numbered fs (a .gives .now)) 0)
+    (flags-by (a .wires) (a .bits) (toZ w32 (ofZ w32 (a .code))) (toZ w32 (ofZ w32 (a .x))) (toZ w32 (ofZ w32 (a .y))) (toZ w32 (ofZ w32 (a .z))) (toZ w32 (ofZ w32 (a .t))) (c .before .before .before .before .before .before .before .before .before .before .before .before .before .before .nat .result)
+    (c .before .before .before .before .before .before .before .before .before .before .before .before .before .before .nat .ensures)
+    (c .before .before .before .before .before .before .before .before .before .before .before .from .ensures)
+    (c .before .before .before .before .before .before .before .before .before .before .unused .ensures)
+    (c .before .before .before .before .before .before .before .before .before .inside .ensures)
+    (c .before .before .before .before .before .before .before .before .second .ensures)
+    (c .before .before .before .before .before .before .before .inside2 .ensures)
+    (c .before .before .before .before .before .before .bitted .ensures)
+    (c .before .before .before .before .before .inside3 .ensures)
+    (c .before .before .before .before .third .ensures)
+    (c .before .before .before .inside4 .ensures)
+    (c .before .before .apart .ensures)
+    ∙ failing-by (a .wires) (a .bits) code x y z t)
 
 pub told-spec : {M : Type 1} → statement M
 told-spec =

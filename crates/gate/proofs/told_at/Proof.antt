@@ -1,7 +1,13 @@
 -- `gate::told_at` meets its contract.
+use mathlib.Core.Path.{_≡_, subst, _∙_}
+use mathlib.Core.Bool.{Bool}
+use mathlib.Core.List.{List}
 use Prim.Native.Nat.{_+_, _*_}
 use Rattle.rules.specs.Limits.{width}
+use Rattle.rules.specs.Refusal.{firstOf}
+use Rattle.gate.specs.Numbered.{numbered}
 use Rattle.gate.proofs.Tests.{back, code-at}
+use Rattle.gate.proofs.Faultless.{failing-by}
 use borrow.Author.Needs.{needs}
 use Rattle.gate.proofs.told_at.Statement.{statement}
 use Rattle.gate.proofs.told_at.Tie as tie
@@ -56,11 +62,17 @@ told-requires c κs = search needs
 
 returns : tie.Need-returns
 returns c =
-    let s = c .before .before .before .before .before .before .before .args in
-    let l = s .list .now in
-    let i = s .i in
-    let j = width * i in
-    cc (code-at l i, back l j (c .before .before .before .before .before .told-arg .given), back l (j + 1) (c .before .before .before .before .told-arg2 .given), back l (j + 2) (c .before .before .before .told-arg3 .given), back l (j + 3) (c .before .before .told-arg4 .given), back l (j + 4) (c .before .told-arg5 .given))
+    let a = c .before .before .before .before .before .before .before .args in
+    let l = a .list .now in
+    let j = width * a .i in
+    subst (λ (fs : List Bool). c .told .result ≡ firstOf (numbered fs (a .gives .now)) 0)
+    (failing-by (a .wires) (a .bits)
+    (back l j (c .before .before .before .before .before .told-arg .given) ∙ code-at l (a .i))
+    (back l (j + 1) (c .before .before .before .before .told-arg2 .given))
+    (back l (j + 2) (c .before .before .before .told-arg3 .given))
+    (back l (j + 3) (c .before .before .told-arg4 .given))
+    (back l (j + 4) (c .before .told-arg5 .given)))
+    (c .told .ensures)
 
 pub told-at-spec : {M : Type 1} → statement M
 told-at-spec =
