@@ -24,7 +24,7 @@ pub unspelled-most : (l : List ℤ) → unspelled l ≤ length l / width
 unfolding unspelled
 unspelled-most l = omega (arith, from-most l (length l / width) zero)
 
-pub not-spelled : (h : Head) (l : List ℤ) → unspelled l < length l / width → translated h l ≡ refusal 13 (unspelled l)
+pub not-spelled : (h : Head) (l : List ℤ) → unspelled l < length l / width → translated h l ≡ refusal 13 (unspelled l) 0
 unfolding translated
 not-spelled h l k = rw (lt-ltb (unspelled l) (length l / width) k)
 

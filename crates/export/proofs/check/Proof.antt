@@ -51,6 +51,9 @@ cast-refuse-2 c =
     let s = v .before .before .before .before .before .before in
     record { fits = omega (arith, ap placeOf (denied v), exact-place (headOf (s .args .head)) (s .args .numbers .now), s .pre .0 .few) }
 
+cast-refuse-3 : tie.Need-cast-refuse-3
+cast-refuse-3 c = search needs
+
 refuse-requires : tie.Need-refuse-requires
 refuse-requires c κs = search needs
 
@@ -67,7 +70,7 @@ same-length : tie.Need-same-length
 same-length c = search needs
 
 returns : tie.Need-returns
-returns c = rw (denied (c .before .before .before .before .before .before .before)) (c .before .before .refuse .ensures)
+returns c = rw (denied (c .before .before .before .before .before .before .before .before)) (c .before .before .refuse .ensures)
 
 same-length-2 : tie.Need-same-length-2
 same-length-2 c = search needs
@@ -89,6 +92,7 @@ check-spec =
     enum-known-verdict
     cast-refuse
     cast-refuse-2
+    cast-refuse-3
     refuse-requires
     enum-told
     print-requires

@@ -39,6 +39,9 @@ cast-refuse c = search needs
 cast-refuse-2 : tie.Need-cast-refuse-2
 cast-refuse-2 c = record { fits = omega (arith, denied (c .before .before .before .before) .place) }
 
+cast-refuse-3 : tie.Need-cast-refuse-3
+cast-refuse-3 c = search needs
+
 refuse-requires : tie.Need-refuse-requires
 refuse-requires c κs = search needs
 
@@ -62,7 +65,7 @@ same-length : tie.Need-same-length
 same-length c = search needs
 
 returns : tie.Need-returns
-returns c = rw (denied (c .before .before .before .before .before .before .before) .is) (c .before .before .refuse .ensures)
+returns c = rw (denied (c .before .before .before .before .before .before .before .before) .is) (c .before .before .refuse .ensures)
 
 same-length-2 : tie.Need-same-length-2
 same-length-2 c = search needs
@@ -79,6 +82,7 @@ minimize-spec =
     enum-known-r
     cast-refuse
     cast-refuse-2
+    cast-refuse-3
     refuse-requires
     enum-known-c
     mul-new

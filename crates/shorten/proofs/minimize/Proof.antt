@@ -47,6 +47,9 @@ cast-refuse c = search needs
 cast-refuse-2 : tie.Need-cast-refuse-2
 cast-refuse-2 c = never (c .before .before .before .before)
 
+cast-refuse-3 : tie.Need-cast-refuse-3
+cast-refuse-3 c = search needs
+
 refuse-requires : tie.Need-refuse-requires
 refuse-requires c κs = search needs
 
@@ -74,7 +77,7 @@ same-length : tie.Need-same-length
 same-length c = search needs
 
 returns : tie.Need-returns
-returns c = never (c .before .before .before .before .before .before .before)
+returns c = never (c .before .before .before .before .before .before .before .before)
 
 same-length-2 : tie.Need-same-length-2
 same-length-2 c = search needs
@@ -97,6 +100,7 @@ minimize-spec =
     enum-known-r
     cast-refuse
     cast-refuse-2
+    cast-refuse-3
     refuse-requires
     enum-known-c
     mul-new
