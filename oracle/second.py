@@ -1,6 +1,6 @@
 """A second reading of the texts, from the documents: a list's text, a laboratory's text (OpenQASM 2.0), and what each program prints for one.
 
-Refusals 3 and 6 to 9 of a list, and what the pass makes of it, come from the oracle (target/oracle/oracle, which oracle/build makes from the
+Refusals 3, 6 to 9 and 14 of a list, and what the pass makes of it, come from the oracle (target/oracle/oracle, which oracle/build makes from the
 original's text)."""
 import os
 import re
@@ -14,7 +14,7 @@ TOP = 2147483647
 
 
 class Refused(Exception):
-    """With its number and place."""
+    """With its number, place and field."""
 
 
 # ---- a list's text
@@ -45,7 +45,7 @@ class Lines:
         return line
 
     def wrong(self):
-        raise Refused(self.refusal, self.at)
+        raise Refused(self.refusal, self.at, 0)
 
     def taken(self, value):
         if value is None:
@@ -60,7 +60,7 @@ class Lines:
 
 def few_bytes(text):
     if len(text) > MOST_BYTES:
-        raise Refused(10, 0)
+        raise Refused(10, 0, 0)
 
 
 def read_list(text):
@@ -73,7 +73,7 @@ def read_list(text):
     word, space, count = lines.next().partition(b" ")
     count = lines.taken(natural(count) if word + space == b"gates " else None)
     if count > MOST_GATES:
-        raise Refused(12, lines.at)
+        raise Refused(12, lines.at, 0)
     numbers = []
     for _ in range(count):
         words = lines.next().split(b" ")
@@ -151,9 +151,9 @@ def read_qasm(text):
     while lines.rest:
         numbers += lines.taken(statement(lines.next(), wires, bits))
     if len(numbers) > WIDTH * MOST_GATES:
-        raise Refused(12, 0)
+        raise Refused(12, 0, 0)
     if wires > MOST_WIRES or bits > MOST_BITS:
-        raise Refused(3, 0)
+        raise Refused(3, 0, 0)
     return wires, bits, numbers
 
 
@@ -174,7 +174,7 @@ def qasm_text(wires, bits, numbers):
     for i, row in enumerate(rows(numbers)):
         line = spelled(row)
         if line is None:
-            raise Refused(13, i)
+            raise Refused(13, i, 0)
         lines.append(line)
     return "".join(f"{line}\n" for line in lines).encode()
 
@@ -189,14 +189,15 @@ def asked(head, numbers):
 
 
 def answers(cases):
-    """The oracle's answers: a number and a place, or the counts and the new gates."""
+    """The oracle's answers: a refusal, or the counts and the new gates."""
     said = subprocess.run([ORACLE, "answer"], input=b"".join(asked(*c) for c in cases), stdout=subprocess.PIPE, check=True).stdout
     at, out = 0, []
     for _ in cases:
         number, _, place = struct.unpack_from("<3I", said, at)
         if number:
-            out.append((number, place))
-            at += 12
+            (field,) = struct.unpack_from("<I", said, at + 12)
+            out.append(Refused(number, place, field))
+            at += 16
             continue
         counts = struct.unpack_from("<8I", said, at + 8)
         gates = struct.unpack_from(f"<{WIDTH * counts[1]}i", said, at + 40)
@@ -224,8 +225,8 @@ PROGRAMS = {
 }
 
 
-def refused(number, place):
-    return f"refused {number} {place}\n".encode()
+def refused(number, place, field):
+    return f"refused {number} {place} {field}\n".encode()
 
 
 def wanted(program, texts):
@@ -243,9 +244,9 @@ def wanted(program, texts):
         if isinstance(each, Refused):
             out.append(refused(*each.args))
             continue
-        first, second = next(said)
+        told = next(said)
         try:
-            out.append(refused(first, second) if isinstance(first, int) else made(*each, first, second))
+            out.append(refused(*told.args) if isinstance(told, Refused) else made(*each, *told))
         except Refused as told:
             out.append(refused(*told.args))
     return out

@@ -1,4 +1,4 @@
-//! The answer that a case must get: the original's gates, and document 01's refusals and counts.
+//! The answer that a case must get: the original's gates, and the documents' refusals and counts.
 use crate::case::{Answer, Case};
 use crate::circuit::Circuit;
 use crate::cnot_min::cnot_min_with;
@@ -42,8 +42,8 @@ fn having(list: &[i32], codes: [i32; 2]) -> u32 {
 }
 
 pub fn answer(case: &Case) -> Answer {
-    if let Some((number, place)) = refusal(case) {
-        return Answer::Refused { number, place };
+    if let Some((number, place, field)) = refusal(case) {
+        return Answer::Refused { number, place, field };
     }
     let gates = original(case, &case.list);
     let [closed, replaced] = blocks(case, &gates);

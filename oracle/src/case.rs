@@ -20,7 +20,7 @@ pub struct Case {
 
 #[derive(PartialEq)]
 pub enum Answer {
-    Refused { number: u32, place: u32 },
+    Refused { number: u32, place: u32, field: u32 },
     Done { counts: [u32; 8], gates: Vec<i32> },
 }
 
@@ -72,7 +72,7 @@ impl Answer {
     pub fn encode(&self, right: u32, bytes: &mut Vec<u8>) {
         let mut word = |x: u32| bytes.extend(x.to_le_bytes());
         match self {
-            Answer::Refused { number, place } => [*number, right, *place].into_iter().for_each(word),
+            Answer::Refused { number, place, field } => [*number, right, *place, *field].into_iter().for_each(word),
             Answer::Done { counts, gates } => {
                 word(0);
                 word(right);
@@ -86,7 +86,7 @@ impl Answer {
     pub fn read(input: &mut impl Read) -> io::Result<(Self, u32)> {
         let head = read_words(input, 3)?;
         if head[0] != 0 {
-            return Ok((Answer::Refused { number: head[0], place: head[2] }, head[1]));
+            return Ok((Answer::Refused { number: head[0], place: head[2], field: read_words(input, 1)?[0] }, head[1]));
         }
         let rest = read_words(input, 7)?;
         let counts = std::array::from_fn(|i| if i == 0 { head[2] } else { rest[i - 1] });
@@ -117,7 +117,7 @@ impl fmt::Display for Case {
 impl fmt::Display for Answer {
     fn fmt(&self, f: &mut fmt::Formatter<'_>) -> fmt::Result {
         match self {
-            Answer::Refused { number, place } => writeln!(f, "refused {number} {place}"),
+            Answer::Refused { number, place, field } => writeln!(f, "refused {number} {place} {field}"),
             Answer::Done { counts, gates } => {
                 writeln!(f, "done, counts {counts:?}:")?;
                 gates.chunks(WIDTH).try_for_each(|g| writeln!(f, "  {g:?}"))

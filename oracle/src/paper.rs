@@ -1,5 +1,5 @@
-//! A second reading of document 01, of what the original does not tell: when a list is refused, and where the scan cuts it. It is written from
-//! the document's words alone and shares nothing with the original or with the port.
+//! A second reading of document 01, of what the original does not tell: when a list is refused, with the field that document 02 adds (A2), and where
+//! the scan cuts it. It is written from the documents' words alone and shares nothing with the original or with the port.
 use crate::gates::WIDTH;
 use crate::case::Case;
 use std::collections::BTreeSet;
@@ -17,36 +17,40 @@ fn uses(code: i32) -> (usize, bool, bool) {
     }
 }
 
-/// The number of a gate's refusal, if it has one.
-fn fault(gate: &[i32], wires: u64, bits: u64) -> Option<u32> {
+/// The number and the field of a gate's refusal, if it has one.
+fn fault(gate: &[i32], wires: u64, bits: u64) -> Option<(u32, u32)> {
     if !(1..=27).contains(&gate[0]) {
-        return Some(6);
+        return Some((6, 0));
     }
     let (n, bit, turn) = uses(gate[0]);
     let used = [true, true, n >= 2 || bit, n >= 3, turn];
     if (0..5).any(|k| !used[k] && gate[k] != 0) {
-        return Some(7);
+        return Some((7, 0));
     }
-    let below = |x: i32, limit: u64| x >= 0 && (x as u64) < limit;
+    // the fields from left to right: a wire by 8, the bit by 14
+    for field in 1..=3 {
+        let (number, limit) = if field == 2 && bit { (14, bits) } else { (8, wires) };
+        let used = field <= n || (field == 2 && bit);
+        if used && (gate[field] < 0 || gate[field] as u64 >= limit) {
+            return Some((number, field as u32));
+        }
+    }
     let on = &gate[1..1 + n];
-    if on.iter().any(|&q| !below(q, wires)) || (bit && !below(gate[2], bits)) {
-        return Some(8);
-    }
     let twice = (1..n).any(|k| on[..k].contains(&on[k]));
-    twice.then_some(9)
+    twice.then_some((9, 0))
 }
 
-/// The number and the place of document 01's table, or none for an accepted list.
-pub fn refusal(case: &Case) -> Option<(u32, u32)> {
+/// The number, the place and the field of the documents' tables, or none for an accepted list.
+pub fn refusal(case: &Case) -> Option<(u32, u32, u32)> {
     let n = case.list.len() as u64;
     let g = n / WIDTH as u64;
     let told =
         [n % WIDTH as u64 != 0, g > 8192, case.wires > 1024 || case.bits > 1024, case.out < n, case.terms / 3 < 3 * g || case.steps / 2 < g + 128];
     if let Some(k) = told.iter().position(|&t| t) {
-        return Some((k as u32 + 1, 0));
+        return Some((k as u32 + 1, 0, 0));
     }
     let mut gates = case.list.chunks(WIDTH).enumerate();
-    gates.find_map(|(i, gate)| fault(gate, case.wires, case.bits).map(|number| (number, i as u32)))
+    gates.find_map(|(i, gate)| fault(gate, case.wires, case.bits).map(|(number, field)| (number, i as u32, field)))
 }
 
 /// A run of gates that one block holds, or a gate that is copied outside any block.

@@ -50,6 +50,42 @@ fn codes(out: &mut Vec<Case>) {
     }
 }
 
+/// The limit of each field that a code uses for a wire or a bit.
+fn ranged(code: i32, wires: i32, bits: i32) -> Vec<(usize, i32)> {
+    match code {
+        8 | 9 | 17..=23 => vec![(1, wires), (2, wires)],
+        24..=26 => vec![(1, wires), (2, wires), (3, wires)],
+        27 => vec![(1, wires), (2, bits)],
+        _ => vec![(1, wires)],
+    }
+}
+
+/// Each code with each used field one below, at both ends of and one past its range, alone and two together, with fewer bits than wires and with
+/// more; then with a field left over too, or a wire twice.
+fn ranges(out: &mut Vec<Case>) {
+    for (code, bits) in (1..=27).flat_map(|code| [(code, 2), (code, 5)]) {
+        let used = ranged(code, 3, bits);
+        let mut push = |change: &[(usize, i32)]| {
+            let mut gate = sound(code);
+            change.iter().for_each(|&(field, x)| gate[field] = x);
+            out.push(Case::new(3, bits as u64, 128, 512, flat(&[sound(10), gate])));
+        };
+        for &(a, most) in &used {
+            [-1, 0, most - 1, most].iter().for_each(|&x| push(&[(a, x)]));
+        }
+        for (i, &(a, most)) in used.iter().enumerate() {
+            for &(b, more) in &used[i + 1..] {
+                [(-1, -1), (-1, more), (most, -1), (most, more)].iter().for_each(|&(x, y)| push(&[(a, x), (b, y)]));
+            }
+        }
+        let (last, most) = used[used.len() - 1];
+        push(&[(3, 1), (4, 1), (last, most)]);
+        if (24..=26).contains(&code) {
+            push(&[(2, 0), (3, 3)]);
+        }
+    }
+}
+
 /// Each room one short, exact and larger, for lists of 0 to 7 gates.
 fn rooms(out: &mut Vec<Case>) {
     for g in [0, 1, 2, 7] {
@@ -134,6 +170,7 @@ fn all(lists: &str, seed: u64) -> io::Result<Vec<Case>> {
     let mut r = Rng(seed);
     let mut out = fixed(lists)?;
     codes(&mut out);
+    ranges(&mut out);
     rooms(&mut out);
     looked(&mut out);
     limits(&mut out);
