@@ -9,18 +9,20 @@
  * Refusals, by number (README.md has the codes of the gates and the grammar of a text):
  *
  *   dilkovan_cnot_min                                        dilkovan_list and dilkovan_export
- *   1  the list's length is no multiple of DILKOVAN_WIDTH     3, 6 to 9  as on the left
+ *   1  the list's length is no multiple of DILKOVAN_WIDTH     3, 6 to 9, 14  as on the left
  *   2  more than 8,192 gates                                  10  a text above 16,384 bytes
  *   3  more than 1,024 wires or classical bits                11  a malformed, missing or surplus line
  *   4  `out` is shorter than the list                         12  more than 512 gates
  *   5  `terms` or `steps` is too short                        13  (export) a gate that OpenQASM 2.0's text doesn't spell here
- *   6  a code outside 1 to 27                                 dilkovan_import and dilkovan_qasm
- *   7  an unused field isn't 0                                10  a text above 16,384 bytes
- *   8  a wire or bit out of range                             13  a wrong or missing line
+ *   6  a code outside 1 to 27
+ *   7  an unused field isn't 0                                dilkovan_import and dilkovan_qasm
+ *   8  a wire out of range                                    10  a text above 16,384 bytes
+ *   14 a measure's classical bit out of range                 13  a wrong or missing line
  *   9  the same wire twice in one gate                        12  more than 512 gates; 3  as on the left
  *
- * The place is the gate's index from 0 for 6 to 9 and export's 13, the line's number from 1 for 11, 12 of a list and 13 of a laboratory's text, and
- * else 0. */
+ * In this order; 8 and 14 as the fields stand. The place is the gate's index from 0 for 6 to 9, 14 and export's 13, the line's number from 1 for
+ * 11, 12 of a list and 13 of a laboratory's text, and else 0. The field is 1, 2 or 3 for 8 and 14, the first of the gate's `first`, `second` and
+ * `third` that is out of range, and else 0. */
 #ifndef DILKOVAN_H
 #define DILKOVAN_H
 
@@ -36,6 +38,11 @@ extern "C" {
 #define DILKOVAN_TERMS(g) (9 * (g))
 #define DILKOVAN_STEPS(g) (2 * ((g) + 128))
 
+/* What a refusal's answer of dilkovan_cnot_min is made of. */
+#define DILKOVAN_FIELD(answer) ((answer) >> 48)
+#define DILKOVAN_NUMBER(answer) ((answer) >> 32 & 0xffff)
+#define DILKOVAN_PLACE(answer) ((answer) & 0xffffffff)
+
 /* Shortens a list of gates, DILKOVAN_WIDTH numbers each: code, first, second, third, turn.
  *
  * For g gates, `out` needs DILKOVAN_WIDTH * g numbers, `terms` DILKOVAN_TERMS(g) and `steps` DILKOVAN_STEPS(g); they may hold any numbers, and may be longer. Nothing beyond
@@ -46,7 +53,7 @@ extern "C" {
  * closed, blocks replaced. The gates of codes 10 to 27 are the same, in order; between them, the new gates take every setting of
  * the wires to the same setting, with phases that differ by one number common to all settings, and are never dearer.
  *
- * Else it answers the refusal's number * 2^32 + its place, and writes nothing, `counts` neither. */
+ * Else it answers the refusal's field * 2^48 + its number * 2^32 + its place, and writes nothing, `counts` neither. */
 uint64_t dilkovan_cnot_min(const int32_t *list, size_t list_length, size_t wires, size_t bits, size_t qubit_cap, size_t term_cap,
                            int32_t *out, size_t out_length, uint64_t *terms, size_t terms_length, uint32_t *steps,
                            size_t steps_length, uint64_t counts[8]);
@@ -57,7 +64,7 @@ uint64_t dilkovan_cnot_min(const int32_t *list, size_t list_length, size_t wires
 /* Shortens the circuit of a list's text, as `./dilkovan list` does.
  *
  * Answers 0 when the list was taken, and 1 when it was refused. In either case `out` begins with what is printed, *length bytes of it with
- * no 0 behind them: the head, the new gates and the counts; or one line, "refused NUMBER PLACE". The rest of `out` is not written, nor is
+ * no 0 behind them: the head, the new gates and the counts; or one line, "refused NUMBER PLACE FIELD". The rest of `out` is not written, nor is
  * the text. Its own tables are on the stack: 80,159 bytes was the deepest measured. */
 uint64_t dilkovan_list(const uint8_t *text, size_t text_length, uint8_t out[DILKOVAN_LIST_BYTES], size_t *length);
 

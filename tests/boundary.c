@@ -76,7 +76,8 @@ typedef struct {
     long out, terms, steps;
 } Call;
 
-#define REFUSED(number, place) ((uint64_t)(number) << 32 | (uint64_t)(place))
+#define REFUSED_AT(number, place, field) ((uint64_t)(field) << 48 | (uint64_t)(number) << 32 | (uint64_t)(place))
+#define REFUSED(number, place) REFUSED_AT(number, place, 0)
 
 static const uint64_t none[8];
 
@@ -92,7 +93,7 @@ static void numbers(Call c, uint64_t answer, const int32_t *result, const uint64
                                       inside(term), term.size / sizeof(uint64_t), inside(step), step.size / sizeof(uint32_t), inside(count));
     calls++;
     if (told != answer) {
-        printf("boundary: %s: answered %" PRIu64 " %" PRIu64 "\n", c.name, told >> 32, told & 0xffffffff);
+        printf("boundary: %s: answered %" PRIu64 " %" PRIu64 " %" PRIu64 "\n", c.name, DILKOVAN_NUMBER(told), DILKOVAN_PLACE(told), DILKOVAN_FIELD(told));
         exit(1);
     }
     settle(c.name, "the list", list, c.list, c.length * sizeof(int32_t), 0);
@@ -148,11 +149,11 @@ static void rooms(void) {
 }
 
 /* Two gates on three wires and two bits, of which the second is refused, in exact rooms and in longer ones. */
-static void gate(const char *name, int number, int32_t code, int32_t first, int32_t second, int32_t third, int32_t turn) {
+static void gate(const char *name, int number, int field, int32_t code, int32_t first, int32_t second, int32_t third, int32_t turn) {
     int32_t list[10] = {2, 0, 0, 0, 0, code, first, second, third, turn};
     for (long more = 0; more < 4; more += 3) {
         Call c = {name, list, 10, 3, 2, 128, 512, more, more, more};
-        numbers(c, REFUSED(number, 1), NULL, none);
+        numbers(c, REFUSED_AT(number, 1, field), NULL, none);
     }
 }
 
@@ -169,19 +170,22 @@ static void refusals(int32_t *list) {
     numbers(c, REFUSED(3, 0), NULL, none);
     c = (Call){"3: bits", three, 15, 1, 1025, 128, 512, 0, 0, 0};
     numbers(c, REFUSED(3, 0), NULL, none);
-    gate("6: code 0", 6, 0, 0, 0, 0, 0);
-    gate("6: code 28", 6, 28, 0, 0, 0, 0);
-    gate("6: code below 0", 6, INT32_MIN, 0, 0, 0, 0);
-    gate("7: second", 7, 2, 0, 1, 0, 0);
-    gate("7: third", 7, 8, 0, 1, 2, 0);
-    gate("7: turn", 7, 6, 0, 0, 0, -1);
-    gate("8: first", 8, 7, 3, 0, 0, 1);
-    gate("8: first below 0", 8, 10, -1, 0, 0, 0);
-    gate("8: second", 8, 9, 0, INT32_MAX, 0, 0);
-    gate("8: third", 8, 24, 0, 1, 3, 0);
-    gate("8: a measure's bit", 8, 27, 0, 2, 0, 0);
-    gate("9: control and target", 9, 8, 1, 1, 0, 0);
-    gate("9: second and third", 9, 26, 0, 2, 2, 0);
+    gate("6: code 0", 6, 0, 0, 0, 0, 0, 0);
+    gate("6: code 28", 6, 0, 28, 0, 0, 0, 0);
+    gate("6: code below 0", 6, 0, INT32_MIN, 0, 0, 0, 0);
+    gate("7: second", 7, 0, 2, 0, 1, 0, 0);
+    gate("7: third", 7, 0, 8, 0, 1, 2, 0);
+    gate("7: turn", 7, 0, 6, 0, 0, 0, -1);
+    gate("8: first", 8, 1, 7, 3, 0, 0, 1);
+    gate("8: first below 0", 8, 1, 10, -1, 0, 0, 0);
+    gate("8: second", 8, 2, 9, 0, INT32_MAX, 0, 0);
+    gate("8: third", 8, 3, 24, 0, 1, 3, 0);
+    gate("14: a measure's bit", 14, 2, 27, 0, 2, 0, 0);
+    gate("8 before 14: a measure's wire and bit", 8, 1, 27, 3, 2, 0, 0);
+    gate("8: first and third", 8, 1, 25, -1, 0, 3, 0);
+    gate("8 before 9: third, and the others alike", 8, 3, 24, 1, 1, 3, 0);
+    gate("9: control and target", 9, 0, 8, 1, 1, 0, 0);
+    gate("9: second and third", 9, 0, 26, 0, 2, 2, 0);
     list[DILKOVAN_WIDTH * (MOST - 2)] = 28;
     c = (Call){"6: the last of 8,192 gates", list, DILKOVAN_WIDTH * (MOST - 1), 1, 0, 128, 512, 0, 0, 0};
     numbers(c, REFUSED(6, MOST - 2), NULL, none);
@@ -265,30 +269,31 @@ static void texts(void) {
     static char bytes[2 * DILKOVAN_LIST_BYTES], printed[2 * DILKOVAN_LIST_BYTES];
     static const char example[] = "head 4\n1\n0\n128\n512\ngates 2\n2 0 0 0 0\n2 0 0 0 0\n";
     text("document 01's example", example, sizeof example - 1, 0, "head 4\n1\n0\n128\n512\ngates 1\n4 0 0 0 0\ncounts 8\n2\n1\n0\n0\n2\n0\n1\n1\n");
-    text("without its last byte", example, sizeof example - 2, 1, "refused 11 8\n");
-    text("no bytes", example, 0, 1, "refused 11 1\n");
-    text("3", "head 4\n1025\n0\n1\n1\ngates 0\n", 26, 1, "refused 3 0\n");
+    text("without its last byte", example, sizeof example - 2, 1, "refused 11 8 0\n");
+    text("no bytes", example, 0, 1, "refused 11 1 0\n");
+    text("3", "head 4\n1025\n0\n1\n1\ngates 0\n", 26, 1, "refused 3 0 0\n");
+    text("14", "head 4\n1\n1\n1\n1\ngates 1\n27 0 1 0 0\n", 34, 1, "refused 14 0 2\n");
     text("no gates", "head 4\n0\n0\n0\n0\ngates 0\n", 23, 0, "head 4\n0\n0\n0\n0\ngates 0\ncounts 8\n0\n0\n0\n0\n0\n0\n0\n0\n");
     /* 512 gates that are copied, in the longest lines that are taken */
     size_t n = repeated(bytes, "23 1023 1022 0 -2147483648", 512);
     sprintf(printed, "%.*scounts 8\n512\n512\n0\n0\n0\n0\n0\n0\n", (int)n, bytes);
     text("512 long lines", bytes, n, 0, printed);
     n = repeated(bytes, "2 0 0 0 0", 513);
-    text("12: 513 gates", bytes, n, 1, "refused 12 6\n");
+    text("12: 513 gates", bytes, n, 1, "refused 12 6 0\n");
     /* lines that make 16,384 bytes in all; the gates are looked at when every line was read */
     n = (size_t)sprintf(bytes, HEAD "gates 512\n");
     for (int i = 0; i < 512; i++)
         n += (size_t)sprintf(bytes + n, "8 1000000000 1000000000 0 %d\n", i < 480 ? 12345 : 1234);
     if (n != LONGEST)
         fail("16,384 bytes", "the test's own text");
-    text("16,384 bytes", bytes, n, 1, "refused 7 0\n");
+    text("16,384 bytes", bytes, n, 1, "refused 7 0 0\n");
     bytes[n] = '\n';
-    text("10: 16,385 bytes", bytes, n + 1, 1, "refused 10 0\n");
+    text("10: 16,385 bytes", bytes, n + 1, 1, "refused 10 0 0\n");
     bytes[n - 1] = '0';
-    text("16,384 bytes without the last LF", bytes, n, 1, "refused 11 518\n");
+    text("16,384 bytes without the last LF", bytes, n, 1, "refused 11 518 0\n");
     memset(bytes, 0, sizeof bytes);
-    text("16,384 zeros", bytes, LONGEST, 1, "refused 11 1\n");
-    text("10: 16,385 zeros", bytes, LONGEST + 1, 1, "refused 10 0\n");
+    text("16,384 zeros", bytes, LONGEST, 1, "refused 11 1 0\n");
+    text("10: 16,385 zeros", bytes, LONGEST + 1, 1, "refused 10 0 0\n");
 }
 
 #define OPENING "OPENQASM 2.0;\ninclude \"qelib1.inc\";\n"
@@ -309,13 +314,13 @@ static void laboratories(void) {
     call(dilkovan_import, "import", lab, sizeof lab - 1, 0, ours);
     call(dilkovan_export, "export", ours, sizeof ours - 1, 0, lab);
     call(dilkovan_qasm, "qasm", lab, sizeof lab - 1, 0, OPENING "qreg q[1];\ncreg c[1];\ntdg q[0];\nmeasure q[0] -> c[0];\n");
-    call(dilkovan_import, "import, without its last byte", lab, sizeof lab - 2, 1, "refused 13 8\n");
-    call(dilkovan_qasm, "qasm, without its last byte", lab, sizeof lab - 2, 1, "refused 13 8\n");
-    call(dilkovan_export, "export, without its last byte", ours, sizeof ours - 2, 1, "refused 11 10\n");
-    call(dilkovan_import, "import, no bytes", lab, 0, 1, "refused 13 1\n");
-    call(dilkovan_export, "export, no bytes", lab, 0, 1, "refused 11 1\n");
-    call(dilkovan_qasm, "qasm, no bytes", lab, 0, 1, "refused 13 1\n");
-    call(dilkovan_export, "export, a swap", swap, sizeof swap - 1, 1, "refused 13 1\n");
+    call(dilkovan_import, "import, without its last byte", lab, sizeof lab - 2, 1, "refused 13 8 0\n");
+    call(dilkovan_qasm, "qasm, without its last byte", lab, sizeof lab - 2, 1, "refused 13 8 0\n");
+    call(dilkovan_export, "export, without its last byte", ours, sizeof ours - 2, 1, "refused 11 10 0\n");
+    call(dilkovan_import, "import, no bytes", lab, 0, 1, "refused 13 1 0\n");
+    call(dilkovan_export, "export, no bytes", lab, 0, 1, "refused 11 1 0\n");
+    call(dilkovan_qasm, "qasm, no bytes", lab, 0, 1, "refused 13 1 0\n");
+    call(dilkovan_export, "export, a swap", swap, sizeof swap - 1, 1, "refused 13 1 0\n");
     /* 512 gates in the longest statements of one number and a turn; 513; and as many bytes as may be, and one more */
     size_t n = statements(bytes, "rz(-2147483648*pi/4) q[0];", 512), m = repeated(printed, "7 0 0 0 -2147483648", 512);
     memmove(printed + 9, printed + 12, m - 12 + 1); /* one wire, not 1,024 */
@@ -324,13 +329,13 @@ static void laboratories(void) {
     call(dilkovan_export, "export, 512 gates", printed, m - 3, 0, (bytes[n] = 0, bytes));
     call(dilkovan_qasm, "qasm, 512 gates that are no turn", bytes, n, 0, OPENING "qreg q[1];\n");
     n = statements(bytes, "x q[0];", 513);
-    call(dilkovan_import, "import, 513 gates", bytes, n, 1, "refused 12 0\n");
-    call(dilkovan_qasm, "qasm, 513 gates", bytes, n, 1, "refused 12 0\n");
+    call(dilkovan_import, "import, 513 gates", bytes, n, 1, "refused 12 0 0\n");
+    call(dilkovan_qasm, "qasm, 513 gates", bytes, n, 1, "refused 12 0 0\n");
     memset(bytes, 'x', sizeof bytes);
-    call(dilkovan_import, "import, 16,384 bytes", bytes, LONGEST, 1, "refused 13 1\n");
-    call(dilkovan_import, "import, 16,385 bytes", bytes, LONGEST + 1, 1, "refused 10 0\n");
-    call(dilkovan_export, "export, 16,385 bytes", bytes, LONGEST + 1, 1, "refused 10 0\n");
-    call(dilkovan_qasm, "qasm, 16,385 bytes", bytes, LONGEST + 1, 1, "refused 10 0\n");
+    call(dilkovan_import, "import, 16,384 bytes", bytes, LONGEST, 1, "refused 13 1 0\n");
+    call(dilkovan_import, "import, 16,385 bytes", bytes, LONGEST + 1, 1, "refused 10 0 0\n");
+    call(dilkovan_export, "export, 16,385 bytes", bytes, LONGEST + 1, 1, "refused 10 0 0\n");
+    call(dilkovan_qasm, "qasm, 16,385 bytes", bytes, LONGEST + 1, 1, "refused 10 0 0\n");
 }
 
 int main(void) {

@@ -13,7 +13,7 @@ static void shorten(const int32_t list[DILKOVAN_WIDTH * GATES]) {
     uint32_t steps[DILKOVAN_STEPS(GATES)] = {0};
     uint64_t refused = dilkovan_cnot_min(list, DILKOVAN_WIDTH * GATES, 1, 0, 128, 512, out, DILKOVAN_WIDTH * GATES, terms, DILKOVAN_TERMS(GATES), steps, DILKOVAN_STEPS(GATES), counts);
     if (refused) {
-        printf("refused %" PRIu64 " %" PRIu64 "\n", refused >> 32, refused & 0xffffffff);
+        printf("refused %" PRIu64 " %" PRIu64 " %" PRIu64 "\n", DILKOVAN_NUMBER(refused), DILKOVAN_PLACE(refused), DILKOVAN_FIELD(refused));
         return;
     }
     printf("%" PRIu64 " gates in, %" PRIu64 " out:\n", counts[0], counts[1]);

@@ -17,8 +17,8 @@ extern "C" {
 
 type Door = unsafe extern "C" fn(*const u8, usize, *mut [u8; 32768], *mut usize) -> u64;
 
-/// The new gates, or the refusal's number and place.
-fn shorten(list: &[i32], wires: usize, bits: usize, qubit_cap: usize, term_cap: usize) -> Result<Vec<i32>, (u32, u32)> {
+/// The new gates, or the refusal's number, place and field.
+fn shorten(list: &[i32], wires: usize, bits: usize, qubit_cap: usize, term_cap: usize) -> Result<Vec<i32>, (u16, u32, u16)> {
     let g = list.len() / WIDTH;
     let (mut out, mut terms, mut steps, mut counts) = (vec![0; list.len()], vec![0; 9 * g], vec![0; 2 * (g + 128)], [0; 8]);
     // Each slice goes as its pointer and its length, and the rooms are apart since each is borrowed as &mut.
@@ -29,7 +29,7 @@ fn shorten(list: &[i32], wires: usize, bits: usize, qubit_cap: usize, term_cap: 
         )
     };
     if answer != 0 {
-        return Err(((answer >> 32) as u32, answer as u32));
+        return Err(((answer >> 32) as u16, answer as u32, (answer >> 48) as u16));
     }
     out.truncate(WIDTH * counts[1] as usize);
     Ok(out)
@@ -56,7 +56,7 @@ fn main() -> std::io::Result<()> {
                 println!("{} gates in, {} out:", list.len() / WIDTH, gates.len() / WIDTH);
                 gates.chunks(WIDTH).for_each(|g| println!("{} {} {} {} {}", g[0], g[1], g[2], g[3], g[4]));
             }
-            Err((number, place)) => println!("refused {number} {place}"),
+            Err((number, place, field)) => println!("refused {number} {place} {field}"),
         }
     }
     let texts: [(Door, &str); 3] = [
