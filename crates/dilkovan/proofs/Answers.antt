@@ -1,21 +1,21 @@
--- A refusal's place fits 32 bits.
+-- A refusal's place fits 32 bits; and number, place and field are read back from the one number.
 use mathlib.Core.Path.{_≡_, refl, ap}
 use mathlib.Core.List.{List}
-use Prim.Native.Nat.{ℕ, _≤_}
+use Prim.Native.Nat.{ℕ, _/_, _%_, _^_, _≤_, _<_}
 use native.Mathlib.Omega.{arith}
 use lib.IntN.{ℤ}
 use lib.ListN.{length}
 use Rattle.rules.specs.Limits.{maxGates}
 use Rattle.rules.specs.Gate.{Gate}
 use Rattle.rules.specs.Numbers.{gatesOf}
-use Rattle.rules.specs.Refusal.{Verdict, accepted, refused, verdict}
+use Rattle.rules.specs.Refusal.{Refusal, Verdict, accepted, refused, verdict}
 use Rattle.rules.specs.Scan.{Result}
 use Rattle.rules.specs.Pass as Paper
 use Rattle.rules.proofs.Accepting.{placeOf, verdict-few}
 use Rattle.cnot_min.specs.Minimizing.{Minimizes}
 use Rattle.cnot_min.specs.declared.Answer.{Answer}
 use Rattle.cnot_min.specs.declared.Answer.the-variants.{Refused, Done}
-use Rattle.dilkovan.specs.Doors.{Placed}
+use Rattle.dilkovan.specs.Doors.{coded, Placed}
 
 placeIn : Paper.Answer → ℕ
 placeIn (Paper.refusal r) = r .place
@@ -35,3 +35,8 @@ pub placed : (l : List ℤ) (w b q t : ℕ) (out : List ℤ) (terms steps : List
 unfolding Placed placeIn
 placed l w b q t out terms steps (Refused r) out′ terms′ steps′ m = omega (arith, ap placeIn (m .answer), after-place l w b q t out terms steps)
 placed l w b q t out terms steps (Done c) out′ terms′ steps′ m = tt
+
+-- what a caller reads back from the one number
+pub decoded : (r : Refusal) → r .number < 2 ^ 16 → r .place < 2 ^ 32
+    → let k = coded (Paper.refusal r) in (k / 2 ^ 48 ≡ r .field) × ((k / 2 ^ 32 % 2 ^ 16 ≡ r .number) × (k % 2 ^ 32 ≡ r .place))
+decoded r n p = (omega arith, (omega arith, omega arith))

@@ -13,26 +13,46 @@ enum-known-a c = search needs
 cast-result : tie.Need-cast-result
 cast-result c = search needs
 
--- the place fits 32 bits
-place-fits : (c : tie.After-struct-known) → (c .before .before) .a .given .0 .0 .place < 2 ^ 32
-unfolding Placed
-place-fits c = rw ((c .before .before) .a .given .1) at ((c .before .before .before .before) .pre)
-
 mul-result : tie.Need-mul-result
-mul-result c = record { fits = omega (arith, place-fits c) }
+mul-result c = search needs
+
+cast-result-2 : tie.Need-cast-result-2
+cast-result-2 c = search needs
+
+-- the place fits 32 bits, so that the sum fits 64
+place-fits : (c : tie.After-struct-known2) → (c .before .before .before) .a .given .0 .0 .place < 2 ^ 32
+unfolding Placed
+place-fits c = rw ((c .before .before .before) .a .given .1) at ((c .before .before .before .before .before) .pre)
+
+mul-result-2 : tie.Need-mul-result-2
+mul-result-2 c = search needs
 
 add-result : tie.Need-add-result
-add-result c = record { fits = omega (arith, place-fits c) }
+add-result c = search needs
+
+add-result-2 : tie.Need-add-result-2
+add-result-2 c = record { fits = omega (arith, place-fits c) }
 
 enum-told : tie.Need-enum-told
 enum-told c = search needs
 
 returns : tie.Need-returns
-returns c = rw ((c .before .before) .a .given .1) refl
+returns c = rw ((c .before .before .before) .a .given .1) refl
 
 returns-2 : tie.Need-returns-2
 returns-2 c = search needs
 
 pub code-spec : {M : Type 1} → statement M
 code-spec =
-    tie.close (tie.spec enum-known-a cast-result mul-result add-result enum-told returns returns-2)
+    tie.close
+    (tie.spec
+    enum-known-a
+    cast-result
+    mul-result
+    cast-result-2
+    mul-result-2
+    add-result
+    add-result-2
+    enum-told
+    returns
+    returns-2)
