@@ -8,7 +8,7 @@ use native.Mathlib.Nat.{not-suc-le-zero, le-of-suc-le-suc}
 use native.Mathlib.Omega.{arith}
 use borrow.Author.Tests.{eq-eqb, ne-eqb}
 use lib.IntN.{ℤ}
-use lib.ListN.{length, getD, replicate}
+use lib.ListN.{length, getD}
 use Rattle.rules.specs.Numbers.{natOf, field}
 use Rattle.rules.specs.Refusal.{Fault, Verdict, none, firstOf, refuse, ruled, gateTests, faultAt}
 use Rattle.rules.proofs.Bits.{same}
@@ -37,12 +37,6 @@ pub first-none : (fs : List Bool) (ns : List ℕ) → Passed fs (length fs) → 
 first-none [] ns p = refl
 first-none (f ∷ fs) [] p = refl
 first-none (f ∷ fs) (n ∷ ns) p = rw (p zero (suc-le-suc zero-le)) (first-none fs ns (passed-rest f fs (length fs) p))
-
--- all pass
-pub none-fails : (n : ℕ) (ns : List ℕ) → firstOf (numbered (replicate n false) ns) 0 ≡ 0
-none-fails zero ns = refl
-none-fails (suc n) [] = refl
-none-fails (suc n) (k ∷ ns) = none-fails n ns
 
 -- ---- a gate's fault, by a part of it that each test gives
 

@@ -170,11 +170,26 @@ fn paired(c: u32, wires: usize, x: i32, y: i32, t: i32) -> bool
     from(CODE_CNOT, CODE_CZ, c) & (inside(y, wires) & (!same(x, y) & same(t, 0)))
 }
 
-// Enough for no fault, and most gates of a list pass it: the tests are made for the others alone.
+// Enough for no fault, and most gates of a list pass it.
 fn plain(c: u32, wires: usize, x: i32, y: i32, z: i32, t: i32) -> bool
     ensures { λ r. ⌜ r ≡ Plain.plain c wires x y z t ⌝ }
 {
     (single(c, y, t) | paired(c, wires, x, y, t)) & (inside(x, wires) & same(z, 0))
+}
+
+fn plain_at(list: &[i32], wires: usize, i: usize) -> bool
+    requires { ⌜ width * i + width ≤ length (now list) ⌝ }
+    ensures { λ r. ⌜ r ≡ Plain.plainAt (now (list .entry)) wires i ⌝ }
+{
+    let at = GATE_WIDTH * i;
+    plain(
+        nat(list[at]),
+        wires,
+        list[at + 1],
+        list[at + 2],
+        list[at + 3],
+        list[at + 4],
+    )
 }
 
 // What is given for the first of a gate's tests that fails: 6, 7, the fields from left to right, 9.
@@ -183,9 +198,6 @@ fn told(wires: usize, bits: usize, code: i32, x: i32, y: i32, z: i32, t: i32, gi
     ensures { λ r. ⌜ r ≡ Refusals.firstOf (numbered (failing wires bits code x y z t) (now (gives .entry))) 0 ⌝ }
 {
     let c = nat(code);
-    if plain(c, wires, x, y, z, t) {
-        return 0;
-    }
     let fails = [
         !from(CODE_X, CODE_MEASURE, c),
         !unused(c, y, z, t),
@@ -217,11 +229,14 @@ fn told_at(list: &[i32], wires: usize, bits: usize, i: usize, gives: &[u8]) -> u
     )
 }
 
-// The number of the gate's refusal, 6 to 9 or 14, or 0 for none.
+// The number of the gate's refusal, 6 to 9 or 14, or 0 for none. The tests are made only of a gate that is not plain.
 pub fn fault_at(list: &[i32], wires: usize, bits: usize, i: usize) -> u8
     requires { ⌜ width * i + width ≤ length (now list) ⌝ }
     ensures { λ r. ⌜ r ≡ Refusals.faultAt (now (list .entry)) wires bits i .number ⌝ }
 {
+    if plain_at(list, wires, i) {
+        return 0;
+    }
     let numbers = [6u8, 7, 8, 8, 14, 8, 9];
     told_at(list, wires, bits, i, &numbers)
 }

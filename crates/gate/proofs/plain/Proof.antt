@@ -2,6 +2,7 @@
 use mir.ValLaws.{toZ-ofZ}
 use mir.Syntax.{w32}
 use borrow.Author.Needs.{needs}
+use Rattle.gate.specs.Plain.{plain}
 use Rattle.gate.proofs.plain.Statement.{statement}
 use Rattle.gate.proofs.plain.Tie as tie
 
@@ -18,6 +19,7 @@ same-requires : tie.Need-same-requires
 same-requires c κs = search needs
 
 returns : tie.Need-returns
+unfolding plain
 returns c =
     let s = c .before .before .before .before in
     cc (toZ-ofZ w32 (s .args .x) (s .fits .x), toZ-ofZ w32 (s .args .y) (s .fits .y), toZ-ofZ w32 (s .args .z) (s .fits .z), toZ-ofZ w32 (s .args .t) (s .fits .t))

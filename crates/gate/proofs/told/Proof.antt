@@ -1,33 +1,19 @@
 -- `gate::told` meets its contract.
-use mathlib.Core.Path.{_≡_, sym, ap, _∙_}
+use mathlib.Core.Path.{ap, _∙_}
 use mathlib.Core.Bool.{Bool}
 use mathlib.Core.List.{List}
 use mir.ValLaws.{toZ-ofZ}
 use mir.Syntax.{w32}
 use mir.Val.{toZ, ofZ}
-use Rattle.rules.specs.Numbers.{natOf}
 use Rattle.rules.specs.Refusal.{firstOf}
-use Rattle.gate.specs.Numbered.{numbered, failing}
-use Rattle.gate.proofs.Faultless.{flags-by, failing-by, plain-faultless}
-use Rattle.gate.proofs.First.{none-fails}
+use Rattle.gate.specs.Numbered.{numbered}
+use Rattle.gate.proofs.Faultless.{flags-by, failing-by}
 use borrow.Author.Needs.{needs}
 use Rattle.gate.proofs.told.Statement.{statement}
 use Rattle.gate.proofs.told.Tie as tie
 
 nat-requires : tie.Need-nat-requires
 nat-requires c κs = search needs
-
-plain-requires : tie.Need-plain-requires
-plain-requires c κs = search needs
-
-returns : tie.Need-returns
-unfolding failing
-returns c =
-    let s = c .before .before .before .before in
-    let a = s .args in
-    let e = plain-faultless (natOf (a .code)) (a .wires) (a .bits) (a .x) (a .y) (a .z) (a .t)
-    (cc (toZ-ofZ w32 (a .code) (s .fits .code), toZ-ofZ w32 (a .x) (s .fits .x), toZ-ofZ w32 (a .y) (s .fits .y), toZ-ofZ w32 (a .z) (s .fits .z), toZ-ofZ w32 (a .t) (s .fits .t), c .if1 .taken)) in
-    sym (ap (λ (fs : List Bool). firstOf (numbered fs (a .gives .now)) 0) e ∙ none-fails 7 (a .gives .now))
 
 from-requires : tie.Need-from-requires
 from-requires c κs = search needs
@@ -65,9 +51,9 @@ slice-aggregate-first-of c = search needs
 first-of-requires : tie.Need-first-of-requires
 first-of-requires c κs = search needs
 
-returns-2 : tie.Need-returns-2
-returns-2 c =
-    let s = c .before .before .before .before .before .before .before .before .before .before .before .before .before .before .before .before in
+returns : tie.Need-returns
+returns c =
+    let s = c .before .before .before .before .before .before .before .before .before .before .before .before .before .before in
     let a = s .args in
     let code = toZ-ofZ w32 (a .code) (s .fits .code) in
     let x = toZ-ofZ w32 (a .x) (s .fits .x) in
@@ -76,8 +62,8 @@ returns-2 c =
     let t = toZ-ofZ w32 (a .t) (s .fits .t) in
     c .first-of .ensures
     ∙ ap (λ (fs : List Bool). firstOf (numbered fs (a .gives .now)) 0)
-    (flags-by (a .wires) (a .bits) (toZ w32 (ofZ w32 (a .code))) (toZ w32 (ofZ w32 (a .x))) (toZ w32 (ofZ w32 (a .y))) (toZ w32 (ofZ w32 (a .z))) (toZ w32 (ofZ w32 (a .t))) (c .before .before .before .before .before .before .before .before .before .before .before .before .before .before .nat .result)
-    (c .before .before .before .before .before .before .before .before .before .before .before .before .before .before .nat .ensures)
+    (flags-by (a .wires) (a .bits) (toZ w32 (ofZ w32 (a .code))) (toZ w32 (ofZ w32 (a .x))) (toZ w32 (ofZ w32 (a .y))) (toZ w32 (ofZ w32 (a .z))) (toZ w32 (ofZ w32 (a .t))) (c .before .before .before .before .before .before .before .before .before .before .before .before .nat .result)
+    (c .before .before .before .before .before .before .before .before .before .before .before .before .nat .ensures)
     (c .before .before .before .before .before .before .before .before .before .before .before .from .ensures)
     (c .before .before .before .before .before .before .before .before .before .before .unused .ensures)
     (c .before .before .before .before .before .before .before .before .before .inside .ensures)
@@ -95,8 +81,6 @@ told-spec =
     tie.close
     (tie.spec
     nat-requires
-    plain-requires
-    returns
     from-requires
     unused-requires
     inside-requires
@@ -109,4 +93,4 @@ told-spec =
     apart-requires
     slice-aggregate-first-of
     first-of-requires
-    returns-2)
+    returns)
