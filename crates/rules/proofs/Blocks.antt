@@ -217,14 +217,24 @@ synth-is b =
     ap (λ (k : ℕ). rest (phaseWalk k (b .terms)) k) (sym (length-map (b .rows) (λ r. r .wire)))
     ∙ ap (λ (w : List Step). rest w (sizeOf b)) (phase-walk (sizeOf b) (b .terms))
 
-synth-made : (b : Block) (gs : List Gate) → synth b ≡ some gs → (apart : Apart (b .rows)) (s : ℕ → Bool) → Made b apart s gs
-synth-made b gs e apart s = go (closing (held (walkOf b) (units (sizeOf b) zero)) (parities (b .rows))) refl (sym (synth-is b) ∙ e)
+-- where there is one, a closing map was found, and these are its gates
+pub record Written (b : Block) (gs : List Gate) : Type 0 where
+  pub steps : List Step
+  pub closed : closing (held (walkOf b) (units (sizeOf b) zero)) (parities (b .rows)) ≡ some steps
+  pub gates : emit (wiresOf (b .rows)) (walkOf b ++ steps) ++ flipsOf (b .rows) ≡ gs
+
+pub synth-of : (b : Block) (gs : List Gate) → synth b ≡ some gs → Written b gs
+synth-of b gs e = go (closing (held (walkOf b) (units (sizeOf b) zero)) (parities (b .rows))) refl (sym (synth-is b) ∙ e)
   where
     go : (o : Option (List Step)) → closing (held (walkOf b) (units (sizeOf b) zero)) (parities (b .rows)) ≡ o
-        → withSteps o (λ c. emit (wiresOf (b .rows)) (walkOf b ++ c) ++ flipsOf (b .rows)) ≡ some gs → Made b apart s gs
+        → withSteps o (λ c. emit (wiresOf (b .rows)) (walkOf b ++ c) ++ flipsOf (b .rows)) ≡ some gs → Written b gs
     go none f g = absurd (Option·none-ne-some gs g)
-    go (some c) f g =
-        subst (λ (l : List Gate). Made b apart s l) (Option·some-injective (emit (wiresOf (b .rows)) (walkOf b ++ c) ++ flipsOf (b .rows)) gs g) (made b apart s c f)
+    go (some c) f g = record { steps = c; closed = f; gates = Option·some-injective (emit (wiresOf (b .rows)) (walkOf b ++ c) ++ flipsOf (b .rows)) gs g }
+
+synth-made : (b : Block) (gs : List Gate) → synth b ≡ some gs → (apart : Apart (b .rows)) (s : ℕ → Bool) → Made b apart s gs
+synth-made b gs e apart s =
+    let k = synth-of b gs e in
+    subst (λ (l : List Gate). Made b apart s l) (k .gates) (made b apart s (k .steps) (k .closed))
 
 -- a block's resynthesis acts like its gates, up to the constant that the fold lost
 pub block-alike : (os : List Op) (gs : List Gate) → synth (fold os empty) ≡ some gs → Alike (map op gs) os

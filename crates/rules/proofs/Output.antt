@@ -3,7 +3,7 @@ use mathlib.Core.Path.{_≡_, refl, sym, ap, _∙_, subst}
 use mathlib.Core.Logic.{_≢_}
 use mathlib.Core.Bool.{Bool, true, false, and-false, false≢true}
 use mathlib.Core.List.{List, [], _∷_, _++_, map}
-use mathlib.Core.Option.{Option, none, some, Option·none-ne-some, Option·some-injective}
+use mathlib.Core.Option.{Option, none, some}
 use Prim.Native.Nat.{ℕ, zero, suc, _/_, _%_, _≤_, _<_, zero-le, suc-le-suc}
 use native.Mathlib.Nat.{not-suc-le-zero, le-of-suc-le-suc}
 use native.Mathlib.Omega.{arith}
@@ -17,9 +17,8 @@ use Rattle.rules.specs.Numbers.{gatesOf, numbersOf}
 use Rattle.rules.specs.Refusal.{accepted, verdict}
 use Rattle.rules.specs.Meaning.{Op, flip, phase, cnot, cz, other, opOf, op}
 use Rattle.rules.specs.Fold.{Row, Block, fresh, empty, joined, rowOf, addRow, join, entered, rowsBy, absorb, fold}
-use Rattle.rules.specs.Walk.{Step, cn, rot, held}
-use Rattle.rules.specs.Close.{units, closing}
-use Rattle.rules.specs.Synth.{rotation, emit, flipsOf, withSteps, synth, blockOf, orElse, resynthesis}
+use Rattle.rules.specs.Walk.{Step, cn, rot}
+use Rattle.rules.specs.Synth.{rotation, emit, flipsOf, synth, blockOf, orElse, resynthesis}
 use Rattle.rules.specs.Plan.{Plan, planOf}
 use Rattle.rules.specs.Scan.{Piece, copied, block, piecesOf, textOf, Writer, Plain, replaces, chosen, finish, passBy}
 use Rattle.rules.specs.Promise.{Held}
@@ -29,7 +28,7 @@ use Rattle.rules.proofs.Folding.{wiresOf}
 use Rattle.rules.proofs.Walking.{Within, within-append}
 use Rattle.rules.proofs.Closing.{at, anywhere}
 use Rattle.rules.proofs.Emitting.{Apart, apart-fold, index}
-use Rattle.rules.proofs.Blocks.{sizeOf, walkOf, parities, walk-within, closes, synth-is}
+use Rattle.rules.proofs.Blocks.{sizeOf, walkOf, walk-within, closes, synth-of}
 use Rattle.rules.proofs.Total.{SaneOp, Sane, Found, synth-total}
 use Rattle.rules.proofs.Passing.{pieces-cut, chosen-thrifty, thrifty-le}
 use Rattle.rules.proofs.Reading.{gates-length}
@@ -176,19 +175,14 @@ sound-flips w b (r ∷ rs) h =
     split (r .flips) (λ e. rw e (sound-one w b codeX (r .wire) refl (h .0), sound-flips w b rs (h .1))) (λ e. rw e (sound-flips w b rs (h .1)))
 
 pub sound-synth : (w b : ℕ) (k : Block) (new : List Gate) → Apart (k .rows) → Below w (k .rows) → synth k ≡ some new → SoundAll w b new
-sound-synth w b k new a h e = go (closing (held (walkOf k) (units (sizeOf k) zero)) (parities (k .rows))) refl (sym (synth-is k) ∙ e)
-  where
-    made : List Step → List Gate
-    made c = emit (wiresOf (k .rows)) (walkOf k ++ c) ++ flipsOf (k .rows)
-
-    go : (o : Option (List Step)) → closing (held (walkOf k) (units (sizeOf k) zero)) (parities (k .rows)) ≡ o → withSteps o made ≡ some new → SoundAll w b new
-    go none f g = absurd (Option·none-ne-some new g)
-    go (some c) f g =
-        let steps : Within (sizeOf k) anywhere anywhere (walkOf k ++ c) =
-        within-append (sizeOf k) anywhere anywhere (walkOf k) c (walk-within k) (closes k a (λ _. false) c f .within) in
-        subst (SoundAll w b) (Option·some-injective (made c) new g)
-        (sound-append w b (emit (wiresOf (k .rows)) (walkOf k ++ c)) (flipsOf (k .rows))
-        (sound-emit w b (k .rows) a h anywhere anywhere (walkOf k ++ c) steps) (sound-flips w b (k .rows) h))
+sound-synth w b k new a h e =
+    let made = synth-of k new e in
+    let c : List Step = made .steps in
+    let steps : Within (sizeOf k) anywhere anywhere (walkOf k ++ c) =
+    within-append (sizeOf k) anywhere anywhere (walkOf k) c (walk-within k) (closes k a (λ _. false) c (made .closed) .within) in
+    subst (SoundAll w b) (made .gates)
+    (sound-append w b (emit (wiresOf (k .rows)) (walkOf k ++ c)) (flipsOf (k .rows))
+    (sound-emit w b (k .rows) a h anywhere anywhere (walkOf k ++ c) steps) (sound-flips w b (k .rows) h))
 
 -- ---- the resynthesis
 
