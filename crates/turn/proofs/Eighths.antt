@@ -11,13 +11,13 @@ use Rattle.rules.specs.Meaning.{turn8}
 use Rattle.rules.specs.Fold.{signed}
 
 -- a quotient is no larger than what was divided
-pub mag-quot : (z : ℤ) → mag (quotZ z (pos 8)) ≤ mag z
-mag-quot (pos n) = div-le-self n 8
-mag-quot (negsuc n) = go (suc n / 8) refl
+pub mag-quot : (z : ℤ) (d : ℕ) → mag (quotZ z (pos d)) ≤ mag z
+mag-quot (pos n) d = div-le-self n d
+mag-quot (negsuc n) d = go (suc n / d) (div-le-self (suc n) d)
   where
-    go : (q : ℕ) → suc n / 8 ≡ q → mag (negℤ (pos q)) ≤ n
-    go zero e = omega arith
-    go (suc q) e = omega arith
+    go : (q : ℕ) → q ≤ suc n → mag (negℤ (pos q)) ≤ n
+    go zero h = omega arith
+    go (suc q) h = omega arith
 
 -- a remainder below 0 is -(k + 1), and z is 7 - k modulo 8
 pub rem-below : (z : ℤ) → ltZ (remZ z (pos 8)) (pos 0) ≡ true → (k : ℕ) × (remZ z (pos 8) ≡ negsuc k) × (k < 7) × (turn8 z ≡ 7 - k)

@@ -20,7 +20,7 @@ part : (c : tie.Start) → toZ w32 (ofZ w32 (remZ (toZ w32 (ofZ w32 (c .args .t)
 part c = rw (whole c) (toZ-ofZ w32 _ (sfits-le (mag-rem (c .args .t) (pos 8)) (c .fits .t)))
 
 rem-m : tie.Need-rem-m
-rem-m c = rw (whole c) (lit< tt, sfits-le (mag-quot (c .args .t)) (c .fits .t))
+rem-m c = rw (whole c) (lit< tt, sfits-le (mag-quot (c .args .t) 8) (c .fits .t))
 
 -- the test's fact, of the remainder itself
 below : (c : tie.Then1) → remZ (c .before .args .t) (pos 8) +ℤ pos 8 ≡ pos (turn8 (c .before .args .t))
