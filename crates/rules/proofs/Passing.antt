@@ -1,9 +1,10 @@
 -- The pass over any writer: what it copies, what it replaces, and what that means stretch by stretch.
 use mathlib.Core.Path.{_≡_, refl, sym, ap, _∙_, subst, fun-ext}
 use mathlib.Core.Logic.{_≢_, _⊎_, inl, inr}
-use mathlib.Core.Bool.{Bool, true, false, _&&_, _||_, false≢true}
+use mathlib.Core.Bool.{Bool, true, false, _&&_, _||_, cond, false≢true}
 use mathlib.Core.List.{List, [], _∷_, _++_, map, append-assoc}
-use Prim.Native.Nat.{ℕ, zero, suc, _+_, _%_, _≤_, _<_}
+use Prim.Native.Nat.{ℕ, zero, suc, _+_, _%_, _≤_, _<_, zero-le}
+use native.Mathlib.Nat.{le-refl}
 use native.Mathlib.Omega.{arith}
 use lib.ListN.{length, length-append}
 use lib.Dec.{eqb, leb, ltb}
@@ -11,11 +12,11 @@ use borrow.Author.Tests.{eqb-true, leb-true, ltb-true}
 use Rattle.rules.specs.Plan.{Plan}
 use Rattle.rules.specs.Gate.{Gate}
 use Rattle.rules.specs.Meaning.{Op, op, opaque, wires, phases, Alike}
-use Rattle.rules.specs.Stretch.{parts, Stretchwise, AlikeGates}
-use Rattle.rules.specs.Counts.{twos, cheaper, Thrifty, unchanged, fewer}
+use Rattle.rules.specs.Stretch.{Later, parts, Paired, Stretchwise, AlikeGates}
+use Rattle.rules.specs.Counts.{twos, spends, ts, cheaper, Thrifty, unchanged, fewer, NoMoreT}
 use Rattle.rules.specs.Fold.{Block, empty}
 use Rattle.rules.specs.Synth.{blockOf}
-use Rattle.rules.specs.Scan.{takes, Piece, copied, block, closed, cut, piecesOf, textOf, Writer, Plain, Lawful, chosen, replaces, Result, finish, passBy}
+use Rattle.rules.specs.Scan.{takes, Piece, copied, block, closed, cut, piecesOf, textOf, Writer, Plain, Lawful, Sparing, chosen, replaces, Result, finish, passBy}
 use Rattle.rules.specs.Promise.{Held, Changes, end, copy, keep, replace, Exactly, Promised}
 use Rattle.rules.proofs.Bits.{split, and-left, and-right}
 use Rattle.rules.proofs.Emitting.{wires-app, phases-app, map-app}
@@ -257,7 +258,55 @@ stretch-by-stretch write plain p gs = pass-stretches write plain Thrifty (record
     each : (gs : List Gate) → Plain gs → Thrifty (chosen write gs) gs
     each gs h = chosen-thrifty write gs
 
--- demand 3, for any lawful writer
-pub promised-by : (write : Writer) → Lawful write → (p : Plan) (gs : List Gate) → Promised write p gs (passBy write p gs)
-promised-by write law p gs =
-    record { alike = stretches write law p gs; thrifty = stretch-by-stretch write (law .plain) p gs; exactly = exactly write p gs }
+-- ---- T
+
+pub ts-append : (us vs : List Gate) → ts (us ++ vs) ≡ ts us + ts vs
+unfolding ts
+ts-append [] vs = omega arith
+ts-append (u ∷ us) vs = omega (arith, ts-append us vs)
+
+-- no stretch spends more T than it did
+pub spared : (write : Writer) → ((gs : List Gate) → Plain gs → Plain (write gs)) → Sparing write → (p : Plan) (gs : List Gate) → Stretchwise NoMoreT (passBy write p gs .gates) gs
+unfolding chosen
+spared write plain law p gs = pass-stretches write plain NoMoreT (record { same = λ us. le-refl (ts us); append = append }) each p gs
+  where
+    append : (us us′ vs vs′ : List Gate) → NoMoreT us us′ → NoMoreT vs vs′ → NoMoreT (us ++ vs) (us′ ++ vs′)
+    append us us′ vs vs′ h k = omega (arith, ts-append us vs, ts-append us′ vs′)
+
+    each : (gs : List Gate) → Plain gs → NoMoreT (chosen write gs) gs
+    each gs h = split (replaces write gs) (λ e. rw e (law .spares gs h)) (λ e. rw e (le-refl (ts gs)))
+
+-- the opaque gates and the stretches after them
+unfoldable tsLater : List Later → ℕ
+tsLater [] = zero
+tsLater (a ∷ as′) = cond (spends (a .gate .code) (a .gate .turn)) 1 0 + (ts (a .stretch) + tsLater as′)
+
+ts-parts : (gs : List Gate) → ts gs ≡ ts (parts gs .first) + tsLater (parts gs .rest)
+unfolding ts tsLater parts
+ts-parts [] = refl
+ts-parts (g ∷ gs) = split (opaque (op g)) (λ e. rw e (omega (arith, ts-parts gs))) (λ e. rw e (omega (arith, ts-parts gs)))
+
+ts-paired : (as′ bs : List Later) → Paired NoMoreT as′ bs → tsLater as′ ≤ tsLater bs
+unfolding tsLater
+ts-paired [] [] h = zero-le
+ts-paired [] (b ∷ bs) h = absurd h
+ts-paired (a ∷ as′) [] h = absurd h
+ts-paired (a ∷ as′) (b ∷ bs) h =
+    omega (arith, ap {B = ℕ} (λ (g : Gate). cond (spends (g .code) (g .turn)) 1 0) (h .0), h .1, ts-paired as′ bs (h .2))
+
+-- so neither does the list: the gates between the stretches are the same
+pub no-more : (new old : List Gate) → Stretchwise NoMoreT new old → NoMoreT new old
+no-more new old h = omega (arith, ts-parts new, ts-parts old, h .first, ts-paired (parts new .rest) (parts old .rest) (h .rest))
+
+-- ---- demand 3, and T, for any writer that keeps the two laws
+
+pub promised-by : (write : Writer) → Lawful write → Sparing write → (p : Plan) (gs : List Gate) → Promised write p gs (passBy write p gs)
+promised-by write law sparing p gs =
+    let s = spared write (law .plain) sparing p gs in
+    record {
+      alike = stretches write law p gs;
+      thrifty = stretch-by-stretch write (law .plain) p gs;
+      exactly = exactly write p gs;
+      sparing = s;
+      spent = no-more (passBy write p gs .gates) gs s;
+    }

@@ -1,22 +1,23 @@
--- Document 01's resynthesis is a lawful writer, so all that holds of any writer's pass holds of the pass.
+-- Document 01's resynthesis is a lawful and sparing writer, so all that holds of such a writer's pass holds of the pass.
 use mathlib.Core.Path.{_≡_, refl, subst}
 use mathlib.Core.List.{List, [], _∷_, _++_, map}
-use mathlib.Core.Option.{Option, none, some, Option·none-ne-some, Option·some-injective}
-use Prim.Native.Nat.{ℕ, zero, suc, _+_, _%_}
-use lib.ListN.{length, getD}
+use mathlib.Core.Option.{Option, none, some}
+use Prim.Native.Nat.{ℕ, zero, suc, _+_, _%_, _≤_}
+use lib.ListN.{getD}
 use Rattle.rules.specs.Gate.{Gate}
 use Rattle.rules.specs.Meaning.{op, Alike}
 use Rattle.rules.specs.Fold.{Row, Block, empty, fold}
-use Rattle.rules.specs.Walk.{Step, cn, rot, phaseWalk, held}
-use Rattle.rules.specs.Close.{units, closing}
-use Rattle.rules.specs.Synth.{rotation, emit, flipsOf, withSteps, synth, blockOf, orElse, resynthesis}
-use Rattle.rules.specs.Scan.{Plain, Lawful}
+use Rattle.rules.specs.Walk.{Step, cn, rot}
+use Rattle.rules.specs.Synth.{rotation, emit, flipsOf, synth, blockOf, orElse, resynthesis}
+use Rattle.rules.specs.Scan.{Plain, Lawful, Sparing}
 use Rattle.rules.specs.Promise.{Promised}
 use Rattle.rules.specs.Plan.{Plan, planOf}
-use Rattle.rules.specs.Pass.{writerOf, pass}
+use Rattle.rules.specs.Pass.{writerOf, pass, counts}
 use Rattle.rules.proofs.Bits.{split}
-use Rattle.rules.proofs.Blocks.{block-alike}
+use Rattle.rules.proofs.Folding.{wiresOf}
+use Rattle.rules.proofs.Blocks.{walkOf, synth-of, block-alike}
 use Rattle.rules.proofs.Passing.{plain-append, alike-refl, promised-by}
+use Rattle.rules.proofs.Odd.{sparing}
 
 -- ---- what is emitted is of the fragment
 
@@ -44,22 +45,11 @@ plain-flips [] = tt
 plain-flips (r ∷ rs) = split (r .flips) (λ e. rw e (refl, plain-flips rs)) (λ e. rw e (plain-flips rs))
 
 pub plain-synth : (b : Block) (gs : List Gate) → synth b ≡ some gs → Plain gs
-unfolding synth
-plain-synth b gs e = go (closing (held w (units n zero)) (map (λ r. r .parity) (b .rows))) e
-  where
-    n : ℕ
-    n = length (b .rows)
-
-    ws : List ℕ
-    ws = map (λ r. r .wire) (b .rows)
-
-    w : List Step
-    w = phaseWalk n (b .terms)
-
-    go : (o : Option (List Step)) → withSteps o (λ c. emit ws (w ++ c) ++ flipsOf (b .rows)) ≡ some gs → Plain gs
-    go none f = absurd (Option·none-ne-some gs f)
-    go (some c) f =
-        subst Plain (Option·some-injective (emit ws (w ++ c) ++ flipsOf (b .rows)) gs f) (plain-append (emit ws (w ++ c)) (flipsOf (b .rows)) (plain-emit ws (w ++ c)) (plain-flips (b .rows)))
+plain-synth b gs e =
+    let k = synth-of b gs e in
+    let ws : List ℕ = wiresOf (b .rows) in
+    let all : List Step = walkOf b ++ k .steps in
+    subst Plain (k .gates) (plain-append (emit ws all) (flipsOf (b .rows)) (plain-emit ws all) (plain-flips (b .rows)))
 
 -- ---- the law
 
@@ -84,7 +74,16 @@ pub plan-lawful : (p : Plan) → Lawful (writerOf p)
 unfolding writerOf
 plan-lawful p = lawful
 
--- demand 3 of document 01's pass, for every list and any two caps
+pub plan-sparing : (p : Plan) → Sparing (writerOf p)
+unfolding writerOf
+plan-sparing p = sparing
+
+-- demand 3 of document 01's pass, and that T never rises, for every list and any two caps
 pub promised : (q t : ℕ) (gs : List Gate) → let p = planOf q t in Promised (writerOf p) p gs (pass q t gs)
 unfolding pass
-promised q t gs = let p = planOf q t in promised-by (writerOf p) (plan-lawful p) p gs
+promised q t gs = let p = planOf q t in promised-by (writerOf p) (plan-lawful p) (plan-sparing p) p gs
+
+-- so of the counts that are told
+pub counts-spent : (q t : ℕ) (gs : List Gate) → let c = counts gs (pass q t gs) in c .tOut ≤ c .tIn
+unfolding counts
+counts-spent q t gs = promised q t gs .spent

@@ -5,13 +5,13 @@ use mathlib.Core.List.{List, [], _∷_, map}
 use Prim.Native.Nat.{ℕ, zero, _+_, _%_}
 use lib.IntN.{ℤ, pos, negsuc}
 use lib.ListN.{length}
-use Rattle.rules.specs.Gate.{Gate, gate1, gate2, codeX, codeT, codeTdg, codeS, codeRz, codeCnot, codeCz}
+use Rattle.rules.specs.Gate.{Gate, gate1, gate2, codeX, codeT, codeTdg, codeS, codeRz, codeCnot, codeCz, codeP}
 use Rattle.rules.specs.Bit.{xor}
 use Rattle.rules.specs.Meaning.{turn8, op, opOf, when1, moved, added, wires, phases, Alike}
-use Rattle.rules.specs.Counts.{twos}
+use Rattle.rules.specs.Counts.{twos, ts}
 use Rattle.rules.specs.Synth.{resynthesis}
 use Rattle.rules.specs.Scan.{Result}
-use Rattle.rules.specs.Pass.{pass}
+use Rattle.rules.specs.Pass.{pass, counts}
 
 abbrev x : ℕ → Gate
 x q = gate1 codeX q
@@ -28,8 +28,11 @@ s q = gate1 codeS q
 abbrev h : ℕ → Gate
 h q = gate1 10 q
 
+abbrev by : ℕ → ℤ → ℕ → Gate
+by c k q = record { code = c; first = q; second = zero; third = zero; turn = k }
+
 abbrev rz : ℤ → ℕ → Gate
-rz k q = record { code = codeRz; first = q; second = zero; third = zero; turn = k }
+rz k q = by codeRz k q
 
 abbrev cnot : ℕ → ℕ → Gate
 cnot p q = gate2 codeCnot p q
@@ -106,6 +109,25 @@ ties = (refl, refl, refl)
 pub longer : (resynthesis five ≡ s 0 ∷ t 0 ∷ s 1 ∷ t 1 ∷ s 2 ∷ t 2 ∷ []) × (sizes (resynthesis five) ≡ (6, 0)) × (sizes five ≡ (5, 2))
 unfolding resynthesis xor twos
 longer = (refl, refl, refl)
+
+-- ---- T as the machine spends it
+
+-- document 02's list: rz(1)0 rz(0)0 comes out as t0, and T stays 1
+abbrev spun : List Gate
+spun = rz (pos 1) 0 ∷ rz (pos 0) 0 ∷ []
+
+pub stays : (pass 128 512 spun .gates ≡ t 0 ∷ [])
+    × (counts spun (pass 128 512 spun) ≡ record { gatesIn = 2; gatesOut = 1; twosIn = 0; twosOut = 0; tIn = 1; tOut = 1; blocks = 1; replaced = 1 })
+unfolding counts pass xor
+stays = (refl, refl)
+
+-- t, tdg, rz and p by an odd turn, -1 and the greatest number too; not by an even one, nor s, rx, cp and crz by whatever turn
+pub spending : map (λ (g : Gate). ts (g ∷ []))
+    (t 0 ∷ tdg 0 ∷ rz (negsuc 0) 0 ∷ rz (pos 2147483647) 0 ∷ by codeP (pos 1) 0 ∷ by codeP (negsuc 8) 0
+    ∷ rz (pos 0) 0 ∷ rz (negsuc 1) 0 ∷ rz (negsuc 2147483647) 0 ∷ by codeP (pos 4) 0 ∷ s 0 ∷ by 15 (pos 1) 0 ∷ by 20 (pos 1) 0 ∷ by 23 (negsuc 0) 0 ∷ [])
+    ≡ 1 ∷ 1 ∷ 1 ∷ 1 ∷ 1 ∷ 1 ∷ 0 ∷ 0 ∷ 0 ∷ 0 ∷ 0 ∷ 0 ∷ 0 ∷ 0 ∷ []
+unfolding ts
+spending = refl
 
 -- ---- turns
 

@@ -41,6 +41,10 @@ codeCnot = 8
 abbrev pub codeCz : ℕ
 codeCz = 9
 
+-- of the opaque codes, the one that is counted
+abbrev pub codeP : ℕ
+codeP = 14
+
 -- the code is one of a to e
 abbrev pub from : ℕ → ℕ → ℕ → Bool
 from a e c = leb a c && leb c e

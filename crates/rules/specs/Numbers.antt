@@ -1,14 +1,14 @@
 -- A gate is five signed numbers: reading and writing a list.
 use mathlib.Core.Bool.{Bool, false}
 use mathlib.Core.List.{List, [], _∷_, _++_}
-use Prim.Native.Nat.{ℕ, zero, suc, _+_, _*_, _/_}
+use Prim.Native.Nat.{ℕ, zero, suc, _+_, _*_, _/_, _%_}
 use lib.Dec.{eqb, ltb}
 use lib.IntN.{ℤ, pos, negsuc}
 use lib.ListN.{length, getD}
 use Rattle.rules.specs.Limits.{width}
 use Rattle.rules.specs.Gate.{Gate}
 
--- ---- signed numbers, looked at in three ways only
+-- ---- signed numbers, looked at in four ways only
 
 -- the number itself, and 0 for a negative one
 abbrev pub natOf : ℤ → ℕ
@@ -25,6 +25,11 @@ same (pos a) (pos b) = eqb a b
 same (pos a) (negsuc b) = false
 same (negsuc a) (pos b) = false
 same (negsuc a) (negsuc b) = eqb a b
+
+-- odd, a negative one too: `negsuc n` is -(n + 1)
+abbrev pub odd : ℤ → Bool
+odd (pos n) = eqb (n % 2) 1
+odd (negsuc n) = eqb (suc n % 2) 1
 
 -- ---- reading
 

@@ -6,7 +6,7 @@ use mathlib.Core.List.{List, [], _∷_, _++_}
 use Prim.Native.Nat.{ℕ, zero, suc}
 use Rattle.rules.specs.Gate.{Gate}
 use Rattle.rules.specs.Stretch.{Stretchwise, AlikeGates}
-use Rattle.rules.specs.Counts.{cheaper, Thrifty}
+use Rattle.rules.specs.Counts.{cheaper, Thrifty, NoMoreT}
 use Rattle.rules.specs.Plan.{Plan}
 use Rattle.rules.specs.Scan.{Writer, Piece, copied, block, piecesOf, textOf, Plain, Result}
 
@@ -36,8 +36,10 @@ pub record Exactly (write : Writer) (p : Plan) (gs : List Gate) (r : Result) : T
   pub changes : Changes write (piecesOf p gs) (r .gates) (r .blocks) (r .replaced)
 
 -- demand 3: the opaque gates are the same and each stretch acts alike; each stretch is unchanged or strictly cheaper;
--- each block is replaced exactly when its new writing is cheaper
+-- each block is replaced exactly when its new writing is cheaper. And T never rises, in no stretch and not over the list
 pub record Promised (write : Writer) (p : Plan) (gs : List Gate) (r : Result) : Type 0 where
   pub alike : Stretchwise AlikeGates (r .gates) gs
   pub thrifty : Stretchwise Thrifty (r .gates) gs
   pub exactly : Exactly write p gs r
+  pub sparing : Stretchwise NoMoreT (r .gates) gs
+  pub spent : NoMoreT (r .gates) gs

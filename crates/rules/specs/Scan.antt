@@ -9,7 +9,7 @@ use lib.Dec.{eqb, leb, ltb}
 use Rattle.rules.specs.Plan.{Plan}
 use Rattle.rules.specs.Gate.{Gate}
 use Rattle.rules.specs.Meaning.{Op, flip, phase, cnot, cz, other, op, opaque, Alike}
-use Rattle.rules.specs.Counts.{cheaper}
+use Rattle.rules.specs.Counts.{cheaper, NoMoreT}
 use Rattle.rules.specs.Fold.{Term, Block, empty, rowOf, entered}
 use Rattle.rules.specs.Synth.{blockOf}
 
@@ -81,10 +81,14 @@ unfolding op
 Plain [] = Unit {0}
 Plain (g ∷ gs) = (opaque (op g) ≡ false) × Plain gs
 
--- the one law that the theorems ask of a writer: a run of the fragment becomes a run of the fragment that acts alike
+-- the law that demand 3 asks of a writer: a run of the fragment becomes a run of the fragment that acts alike
 pub record Lawful (write : Writer) : Type 0 where
   pub alike : (gs : List Gate) → Plain gs → Alike (map op (write gs)) (map op gs)
   pub plain : (gs : List Gate) → Plain gs → Plain (write gs)
+
+-- and the one that "T never rises" asks: no more T than the run
+pub record Sparing (write : Writer) : Type 0 where
+  pub spares : (gs : List Gate) → Plain gs → NoMoreT (write gs) gs
 
 -- the block is replaced: its new writing is cheaper
 unfoldable pub replaces : Writer → List Gate → Bool
