@@ -1,20 +1,20 @@
 -- The machine's signed numbers and its tests of them, as the definitions have them.
 use mathlib.Core.Path.{_≡_, refl, sym, ap, _∙_}
-use mathlib.Core.Bool.{true, false, true≢false}
+use mathlib.Core.Bool.{true, false, not, true≢false}
 use mathlib.Core.List.{List}
-use Prim.Native.Nat.{ℕ, suc, _-_, _*_, _^_, _<_}
-use native.Mathlib.Nat.{add-zero}
+use Prim.Native.Nat.{ℕ, zero, suc, _-_, _*_, _%_, _^_, _<_}
+use native.Mathlib.Nat.{add-zero, mod-lt, zero-lt-suc}
 use native.Mathlib.Omega.{arith}
 use borrow.Author.Tests.{ltb-true, eqb-true, eqb-false, eq-eqb, ne-eqb}
 use lib.Dec.{T, eqb, ltb}
-use lib.IntN.{ℤ, pos, negsuc, natAbs}
-use lib.Signed.{ltZ, nonNeg, mag}
+use lib.IntN.{ℤ, pos, negsuc, natAbs, negℤ}
+use lib.Signed.{ltZ, nonNeg, mag, remZ}
 use lib.ListN.{getD}
 use mir.Syntax.{w32}
 use mir.Val.{toZ, ofZ, SFits}
 use mir.ValLaws.{toZ-ofZ}
 use Rattle.rules.specs.Limits.{width}
-use Rattle.rules.specs.Numbers.{natOf, inside, same, field}
+use Rattle.rules.specs.Numbers.{natOf, inside, same, odd, field}
 use Rattle.rules.proofs.Bits.{split}
 
 -- z is below 0
@@ -74,3 +74,14 @@ pub read-at : (l : List ℤ) (j r : ℕ) → mag (getD l j (pos 0)) < 2 ^ 31 →
 read-at l j r h e =
     let f : r ≡ natOf (getD l j (pos 0)) = e ∙ ap natOf (back l j h) in
     (f, rw f (nat-lt (getD l j (pos 0)) h))
+
+-- a remainder by 2, or its negation, that isn't 0
+not-even : (m : ℕ) → m < 2 → (not (same (pos m) (pos 0)) ≡ eqb m 1) × (not (same (negℤ (pos m)) (pos 0)) ≡ eqb m 1)
+not-even zero h = (refl, refl)
+not-even (suc zero) h = (refl, refl)
+not-even (suc (suc m)) h = absurd (omega arith)
+
+-- so the machine's remainder tells an odd number, of either sign
+pub odd-rem : (z : ℤ) → not (same (remZ z (pos 2)) (pos 0)) ≡ odd z
+odd-rem (pos n) = not-even (n % 2) (mod-lt n (zero-lt-suc 1)) .0
+odd-rem (negsuc n) = not-even (suc n % 2) (mod-lt (suc n) (zero-lt-suc 1)) .1

@@ -2,6 +2,5 @@
 pub mod Verdicts
 pub mod Reading
 pub mod Writing
-pub mod Counting
 pub mod Plain
 pub mod Numbered

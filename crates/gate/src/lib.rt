@@ -20,11 +20,10 @@ ghost use Rattle.rules.specs.Limits.{width};
 ghost use Rattle.rules.specs.Gate as Codes;
 ghost use Rattle.rules.specs.Numbers as Numbers;
 ghost use Rattle.rules.specs.Refusal as Refusals;
-ghost use Rattle.rules.specs.Counts.{twos, ts};
+ghost use Rattle.rules.specs.Counts.{twos, spends, ts};
 ghost use Rattle.gate.specs.Verdicts.{verdictOf};
 ghost use Rattle.gate.specs.Reading.{Reads};
 ghost use Rattle.gate.specs.Writing.{placed, gateOf, Small};
-ghost use Rattle.gate.specs.Counting.{having};
 ghost use Rattle.gate.specs.Plain as Plain;
 ghost use Rattle.gate.specs.Numbered.{numbered, failing, failingAt};
 
@@ -86,6 +85,13 @@ pub fn same(x: i32, y: i32) -> bool
     ensures { λ r. ⌜ r ≡ Numbers.same x y ⌝ }
 {
     x == y
+}
+
+// Whether it is odd: the remainder of a negative one is -1.
+pub fn odd(x: i32) -> bool
+    ensures { λ r. ⌜ r ≡ Numbers.odd x ⌝ }
+{
+    x % 2 != 0
 }
 
 // ---- which fields a code uses: tests without a branch
@@ -336,33 +342,41 @@ pub fn write(out: &mut [i32], i: usize, g: Gate)
     out[at + 4] = g.turn as i32;
 }
 
-// ---- counts
+// ---- counts: the sum moves by a test, so that the loops have no branch on data
 
-// The gates whose code is one of two. The sum moves by the test, so that the loop has no branch on data.
-fn count(list: &[i32], a: u32, b: u32) -> usize
-    ensures { λ r. ⌜ r ≡ having a b (Numbers.gatesOf (now (list .entry))) ⌝ }
+// CNOT and CZ.
+pub fn count_two(list: &[i32]) -> usize
+    ensures { λ r. ⌜ r ≡ twos (Numbers.gatesOf (now (list .entry))) ⌝ }
 {
     let n = list.len() / GATE_WIDTH;
     let mut sum: usize = 0;
     let mut i = 0;
     while i < n {
         let c = nat(list[GATE_WIDTH * i]);
-        sum += ((c == a) | (c == b)) as usize;
+        sum += ((c == CODE_CNOT) | (c == CODE_CZ)) as usize;
         i += 1;
     }
     sum
 }
 
-// CNOT and CZ.
-pub fn count_two(list: &[i32]) -> usize
-    ensures { λ r. ⌜ r ≡ twos (Numbers.gatesOf (now (list .entry))) ⌝ }
+// Whether the machine spends a T on the gate: t, tdg, and rz or p with an odd turn.
+fn spent(c: u32, t: i32) -> bool
+    ensures { λ r. ⌜ r ≡ spends c t ⌝ }
 {
-    count(list, CODE_CNOT, CODE_CZ)
+    ((c == CODE_T) | (c == CODE_TDG)) | (((c == CODE_RZ) | (c == CODE_P)) & odd(t))
 }
 
-// t and tdg.
+// T, as the machine spends it.
 pub fn count_t(list: &[i32]) -> usize
     ensures { λ r. ⌜ r ≡ ts (Numbers.gatesOf (now (list .entry))) ⌝ }
 {
-    count(list, CODE_T, CODE_TDG)
+    let n = list.len() / GATE_WIDTH;
+    let mut sum: usize = 0;
+    let mut i = 0;
+    while i < n {
+        let at = GATE_WIDTH * i;
+        sum += spent(nat(list[at]), list[at + 4]) as usize;
+        i += 1;
+    }
+    sum
 }
