@@ -2,7 +2,7 @@
 use mathlib.Core.Path.{_≡_, refl, sym, ap, _∙_, subst}
 use mathlib.Core.Bool.{Bool, true, false, false≢true}
 use mathlib.Core.List.{List, _++_, append-assoc}
-use Prim.Native.Nat.{ℕ, _-_, _*_}
+use Prim.Native.Nat.{ℕ, _-_, _*_, _≤_}
 use lib.IntN.{ℤ, pos}
 use lib.ListN.{length, take, drop, replicate}
 use lib.Seq.{take-at}
@@ -16,7 +16,7 @@ use Rattle.rules.specs.Promise.{Promised}
 use Rattle.rules.specs.Pass as Paper
 use Rattle.rules.specs.Pass.{writerOf}
 use Rattle.rules.proofs.Reading.{read-written, length-numbers}
-use Rattle.rules.proofs.Resynthesis.{promised}
+use Rattle.rules.proofs.Resynthesis.{promised, counts-spent}
 use Rattle.cnot_min.specs.Minimizing.{told, shown, Minimizes, Minimized}
 use Rattle.cnot_min.specs.declared.Answer.{Answer}
 
@@ -75,12 +75,16 @@ module _ (l : List ℤ) (w b q t : ℕ) (out : List ℤ) (terms steps : List ℕ
     alike = λ c f. promised-of c f .alike;
     thrifty = λ c f. promised-of c f .thrifty;
     exactly = λ c f. promised-of c f .exactly;
+    sparing = λ c f. promised-of c f .sparing;
+    spent = λ c f. subst (λ (x : Paper.Counts). x .tOut ≤ x .tIn) (sym (same c f)) (counts-spent q t (gatesOf l));
   }
     where
+      same : (c : Paper.Counts) → told r ≡ Paper.done c → c ≡ Paper.counts (gatesOf l) (Paper.pass q t (gatesOf l))
+      same c f = done-is c (Paper.counts (gatesOf l) (Paper.pass q t (gatesOf l))) (sym f ∙ m .answer)
+
       whole : (c : Paper.Counts) → told r ≡ Paper.done c → shown c out′ ≡ Paper.pass q t (gatesOf l)
       whole c f =
-          let same : c ≡ Paper.counts (gatesOf l) (Paper.pass q t (gatesOf l)) = done-is c (Paper.counts (gatesOf l) (Paper.pass q t (gatesOf l))) (sym f ∙ m .answer) in
-          ap (λ (x : Paper.Counts). shown x out′) same ∙ ap (shown (Paper.counts (gatesOf l) (Paper.pass q t (gatesOf l)))) (m .out-is) ∙ shown-is l q t out
+          ap (λ (x : Paper.Counts). shown x out′) (same c f) ∙ ap (shown (Paper.counts (gatesOf l) (Paper.pass q t (gatesOf l)))) (m .out-is) ∙ shown-is l q t out
 
       promised-of : (c : Paper.Counts) → told r ≡ Paper.done c → let p = planOf q t in Promised (writerOf p) p (gatesOf l) (shown c out′)
       promised-of c f = let p = planOf q t in subst (Promised (writerOf p) p (gatesOf l)) (sym (whole c f)) (promised q t (gatesOf l))
@@ -95,4 +99,6 @@ module _ (l : List ℤ) (w b q t : ℕ) (out : List ℤ) (terms steps : List ℕ
     alike = λ c g. absurd (false≢true (not-done r c (sym f ∙ g)));
     thrifty = λ c g. absurd (false≢true (not-done r c (sym f ∙ g)));
     exactly = λ c g. absurd (false≢true (not-done r c (sym f ∙ g)));
+    sparing = λ c g. absurd (false≢true (not-done r c (sym f ∙ g)));
+    spent = λ c g. absurd (false≢true (not-done r c (sym f ∙ g)));
   }

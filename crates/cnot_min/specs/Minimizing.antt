@@ -8,7 +8,7 @@ use Rattle.rules.specs.Limits.{width, maxColumns, termWidth, stepWidth, termEnt
 use Rattle.rules.specs.Numbers.{gatesOf, numbersOf}
 use Rattle.rules.specs.Refusal.{accepted}
 use Rattle.rules.specs.Stretch.{Stretchwise, AlikeGates}
-use Rattle.rules.specs.Counts.{Thrifty}
+use Rattle.rules.specs.Counts.{Thrifty, NoMoreT}
 use Rattle.rules.specs.Plan.{Plan, planOf}
 use Rattle.rules.specs.Scan.{Writer, Result, passBy}
 use Rattle.rules.specs.Promise.{Exactly}
@@ -46,7 +46,7 @@ told (Done c) = Paper.done (counted c)
 abbrev pub shown : Paper.Counts → List ℤ → Result
 shown c out = record { gates = gatesOf (take (width * c .gatesOut) out); blocks = c .blocks; replaced = c .replaced }
 
--- demands 1, 2 and 3
+-- demands 1, 2 and 3, and that T never rises
 pub record Minimizes (l : List ℤ) (wires bits qcap tcap : ℕ) (out : List ℤ) (terms steps : List ℕ) (r : Answer) (out′ : List ℤ) (terms′ steps′ : List ℕ) : Type 0 where
   -- refused exactly when document 01's table says, with its number, place and field; else the eight counts of document 01's pass.
   -- Wrong: always refusing; a count that is invented
@@ -66,6 +66,10 @@ pub record Minimizes (l : List ℤ) (wires bits qcap tcap : ℕ) (out : List ℤ
   -- each gate outside a block is copied; each block is replaced exactly when its resynthesis is cheaper, else kept; and the blocks closed and replaced are counted.
   -- Wrong: a block that ties replaced; a cheaper writing left
   pub exactly : (c : Paper.Counts) → told r ≡ Paper.done c → let p = planOf qcap tcap in Exactly (writerOf p) p (gatesOf l) (shown c out′)
+  -- no stretch spends more T than it did: t, tdg, and rz or p with an odd turn. Wrong: a turn of 2 emitted as two t; one of 0 as t and tdg
+  pub sparing : (c : Paper.Counts) → told r ≡ Paper.done c → Stretchwise NoMoreT (shown c out′ .gates) (gatesOf l)
+  -- and so, of the counts that are told, T out is at most T in. Wrong: t and tdg alone counted, where rz(1) rz(0) becomes t; T in and out exchanged
+  pub spent : (c : Paper.Counts) → told r ≡ Paper.done c → c .tOut ≤ c .tIn
 
 -- ---- an accepted list
 

@@ -19,7 +19,7 @@ ghost use Rattle.plan.specs.View.{view};
 ghost use Rattle.scan.specs.Scanning.{gatesIn};
 ghost use Rattle.cnot_min.specs.Minimizing.{Minimizes, Minimized, Rewritable, Rewrites};
 
-// In document 01's order: gates, CNOT and CZ together, t and tdg together, each in and out; blocks closed, blocks replaced.
+// In document 01's order: gates, CNOT and CZ together, T as the machine spends it, each in and out; blocks closed, blocks replaced.
 pub struct Counts {
     pub gatesin: usize,
     pub gatesout: usize,

@@ -39,6 +39,9 @@ cases =
     -- document 01's list
     plain "head 4\n1\n0\n128\n512\ngates 2\n2 0 0 0 0\n2 0 0 0 0\n"
     "head 4\n1\n0\n128\n512\ngates 1\n4 0 0 0 0\ncounts 8\n2\n1\n0\n0\n2\n0\n1\n1\n"
+    -- document 02's list of T: t0 for rz(1)0 rz(0)0, and T stays 1; p by an odd turn, which is negative, and rx
+    ∷ behind "gates 2\n7 0 0 0 1\n7 0 0 0 0\n" "head 4\n1\n0\n128\n512\ngates 1\n2 0 0 0 0\ncounts 8\n2\n1\n0\n0\n1\n1\n1\n1\n"
+    ∷ behind "gates 2\n14 0 0 0 -1\n15 0 0 0 1\n" "head 4\n1\n0\n128\n512\ngates 2\n14 0 0 0 -1\n15 0 0 0 1\ncounts 8\n2\n2\n0\n0\n1\n1\n0\n0\n"
     -- no gates; caps that are clamped are printed as they were read
     ∷ plain "head 4\n0\n0\n0\n2147483647\ngates 0\n" "head 4\n0\n0\n0\n2147483647\ngates 0\ncounts 8\n0\n0\n0\n0\n0\n0\n0\n0\n"
     -- a text that is empty, ends early, or has another head
@@ -74,7 +77,7 @@ cases =
     ∷ one "2 0 0 0 0\0\n" "refused 11 7 0\n"
     -- both ends of a turn
     ∷ one "7 0 0 0 -2147483648\n" "head 4\n1\n0\n128\n512\ngates 0\ncounts 8\n1\n0\n0\n0\n0\n0\n1\n1\n"
-    ∷ one "14 0 0 0 2147483647\n" "head 4\n1\n0\n128\n512\ngates 1\n14 0 0 0 2147483647\ncounts 8\n1\n1\n0\n0\n0\n0\n0\n0\n"
+    ∷ one "14 0 0 0 2147483647\n" "head 4\n1\n0\n128\n512\ngates 1\n14 0 0 0 2147483647\ncounts 8\n1\n1\n0\n0\n1\n1\n0\n0\n"
     -- after all lines, 3, and then 6 to 9 and 14 with the gate's index
     ∷ plain "head 4\n1025\n0\n128\n512\ngates 1\n0 0 0 0 0\n" "refused 3 0 0\n"
     ∷ one "28 0 0 0 0\n" "refused 6 0 0\n"

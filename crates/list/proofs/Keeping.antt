@@ -14,7 +14,7 @@ use Rattle.rules.specs.Scan.{Result}
 use Rattle.rules.specs.Pass.{pass, counts}
 use Rattle.rules.proofs.Bits.{split}
 use Rattle.rules.proofs.Reading.{length-numbers}
-use Rattle.rules.proofs.Resynthesis.{promised}
+use Rattle.rules.proofs.Resynthesis.{promised, counts-spent}
 use Rattle.spelling.specs.Sizes.{listBytes, listGates}
 use Rattle.spelling.specs.Texts.{Head, listText, resultText}
 use Rattle.spelling.specs.Reading.{Read, malformed, many, read, readText}
@@ -65,6 +65,7 @@ module _ (text : List ℕ) (h : Head) (ns : List ℤ) (is : readText listGates t
     parts = refl;
     reads-back = read-text listGates h (numbersOf (new .gates)) (made-listed e);
     promised = rw (same-result h ns e) (promised (h .qubits) (h .terms) gs);
+    spent = counts-spent (h .qubits) (h .terms) gs;
     counted = ap (λ (r : Result). counts gs r) (sym (same-result h ns e));
   }
 

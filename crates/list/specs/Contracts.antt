@@ -2,7 +2,7 @@
 use mathlib.Core.Path.{_≡_}
 use mathlib.Core.Bool.{false}
 use mathlib.Core.List.{List, _++_}
-use Prim.Native.Nat.{ℕ}
+use Prim.Native.Nat.{ℕ, _≤_}
 use lib.IntN.{ℤ}
 use lib.ListN.{take}
 use Rattle.rules.specs.Numbers.{gatesOf}
@@ -19,7 +19,7 @@ use Rattle.list.specs.Answer.{countNumbers, answer}
 
 -- demand 3, of the gates that are printed. The text reads as a head and some gates' numbers; what is printed is a list's text and a section of
 -- counts; that list's text reads as the same head and other gates' numbers; and the gates that are printed stand to those that were read as
--- demand 3 says. The counts are theirs
+-- demand 3 says, and spend no more T. The counts are theirs
 pub record Kept (text printed : List ℕ) : Type 0 where
   pub head : Head
   pub old : List ℤ
@@ -32,6 +32,8 @@ pub record Kept (text printed : List ℕ) : Type 0 where
   pub reads-back : readText listGates list ≡ read head new
   -- wrong: an x lost; a dearer writing kept; a block that ties replaced
   pub promised : let p = planOf (head .qubits) (head .terms) in Promised (writerOf p) p (gatesOf old) (record { gates = gatesOf new; blocks = counts .blocks; replaced = counts .replaced })
+  -- wrong: T as document 01 counted it, by t and tdg alone; T in and out exchanged
+  pub spent : counts .tOut ≤ counts .tIn
   -- wrong: the counts of another list
   pub counted : counts ≡ Paper.counts (gatesOf old) (record { gates = gatesOf new; blocks = counts .blocks; replaced = counts .replaced })
 
