@@ -41,6 +41,16 @@ fn having(list: &[i32], codes: [i32; 2]) -> u32 {
     list.chunks(WIDTH).filter(|g| codes.contains(&g[0])).count() as u32
 }
 
+/// T as document 01 counted it: t and tdg alone.
+pub fn named(list: &[i32]) -> u32 {
+    having(list, [2, 3])
+}
+
+/// T as the machine spends it, document 02's A3: also every rz or p with an odd turn, as it is written.
+fn spent(list: &[i32]) -> u32 {
+    list.chunks(WIDTH).filter(|g| matches!(g[0], 2 | 3) || matches!(g[0], 7 | 14) && g[4] & 1 == 1).count() as u32
+}
+
 pub fn answer(case: &Case) -> Answer {
     if let Some((number, place, field)) = refusal(case) {
         return Answer::Refused { number, place, field };
@@ -48,9 +58,9 @@ pub fn answer(case: &Case) -> Answer {
     let gates = original(case, &case.list);
     let [closed, replaced] = blocks(case, &gates);
     let (old, new) = (&case.list, &gates);
-    let (two, t) = ([8, 9], [2, 3]);
+    let two = [8, 9];
     let gates_of = |list: &[i32]| (list.len() / WIDTH) as u32;
     let counts =
-        [gates_of(old), gates_of(new), having(old, two), having(new, two), having(old, t), having(new, t), closed, replaced];
+        [gates_of(old), gates_of(new), having(old, two), having(new, two), spent(old), spent(new), closed, replaced];
     Answer::Done { counts, gates }
 }

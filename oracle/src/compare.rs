@@ -1,5 +1,5 @@
 //! Runs a program that reads and writes as `batch_main` does beside the original, through a pipe, and compares every answer.
-use crate::answer::answer;
+use crate::answer::{answer, named};
 use crate::case::{Answer, Case};
 use crate::make::{Rng, blocks, long, random, wide};
 use crate::{damage, short};
@@ -20,14 +20,17 @@ struct Tally {
     gates: [u64; 2],
     blocks: [u64; 2],
     refused: [u64; 15],
+    /// Lists in which t and tdg alone rose. T as the machine spends it never does: see `rises`.
+    rose: u64,
 }
 
 impl Tally {
-    fn add(&mut self, answer: &Answer) {
+    fn add(&mut self, case: &Case, answer: &Answer) {
         self.lists += 1;
         match answer {
             Answer::Refused { number, .. } => self.refused[*number as usize] += 1,
-            Answer::Done { counts, .. } => {
+            Answer::Done { counts, gates } => {
+                self.rose += (named(gates) > named(&case.list)) as u64;
                 for k in 0..2 {
                     self.gates[k] += counts[k] as u64;
                     self.blocks[k] += counts[6 + k] as u64;
@@ -40,8 +43,8 @@ impl Tally {
         let refused: Vec<String> = (1..15).filter(|&k| self.refused[k] > 0).map(|k| format!("{k}: {}", self.refused[k])).collect();
         let refused = if refused.is_empty() { "none".to_string() } else { refused.join(", ") };
         println!(
-            "{kind}: {} lists, {} gates in, {} out, {} blocks closed, {} replaced, refused {refused}; {seconds:.1} s",
-            self.lists, self.gates[0], self.gates[1], self.blocks[0], self.blocks[1]
+            "{kind}: {} lists, {} gates in, {} out, {} blocks closed, {} replaced, refused {refused}; T rose in none, t and tdg alone in {}; {seconds:.1} s",
+            self.lists, self.gates[0], self.gates[1], self.blocks[0], self.blocks[1], self.rose
         );
     }
 }
@@ -102,7 +105,12 @@ fn make<W: Write>(feed: &mut Feed<W>, seed: u64, count: usize, kinds: &[String])
     }
 }
 
-/// The kinds' tallies, or the first difference.
+/// The counts say that more T is spent than before.
+fn rises(answer: &Answer) -> bool {
+    matches!(answer, Answer::Done { counts, .. } if counts[5] > counts[4])
+}
+
+/// The kinds' tallies, or the first difference or rise of T.
 fn judge(from: Receiver<Batch>, program: &mut impl Read) -> Result<u64, String> {
     let (mut all, mut kind, mut tally, mut since) = (0, usize::MAX, Tally::default(), Instant::now());
     for (k, cases) in from {
@@ -121,7 +129,8 @@ fn judge(from: Receiver<Batch>, program: &mut impl Read) -> Result<u64, String> 
                     let (got, rooms) = got;
                     return Err(format!("a difference at the list {}the original:\n{wanted}the program (rooms {rooms}):\n{got}", told()));
                 }
-                Ok(_) => tally.add(&wanted),
+                Ok(_) if rises(&wanted) => return Err(format!("T rises in the list {}the original:\n{wanted}", told())),
+                Ok(_) => tally.add(case, &wanted),
             }
             all += 1;
         }
