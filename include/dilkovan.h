@@ -49,8 +49,8 @@ extern "C" {
  * these parts is ever written, and the list never. The qubit cap is clamped to 1..128, the term cap raised to at least 1.
  *
  * Answers 0 when it is done. Then `out` begins with the new gates, counts[1] of them, and is 0 from there to DILKOVAN_WIDTH * g; the needed parts of
- * `terms` and `steps` are 0; and `counts` has gates in, gates out, CNOT and CZ in, the same out, t and tdg in, the same out, blocks
- * closed, blocks replaced. The gates of codes 10 to 27 are the same, in order; between them, the new gates take every setting of
+ * `terms` and `steps` are 0; and `counts` has gates in, gates out, CNOT and CZ in, the same out, T in, the same out, blocks
+ * closed, blocks replaced. T is t, tdg, and every rz or p with an odd turn; counts[5] is at most counts[4]. The gates of codes 10 to 27 are the same, in order; between them, the new gates take every setting of
  * the wires to the same setting, with phases that differ by one number common to all settings, and are never dearer.
  *
  * Else it answers the refusal's field * 2^48 + its number * 2^32 + its place, and writes nothing, `counts` neither. */

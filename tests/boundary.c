@@ -108,6 +108,8 @@ static void numbers(Call c, uint64_t answer, const int32_t *result, const uint64
     memcpy(found, inside(count), sizeof found);
     if (found[0] != g || found[1] > g)
         fail(c.name, "gates in or out");
+    if (found[3] > found[2] || found[5] > found[4])
+        fail(c.name, "CNOT and CZ, or T, that rise");
     size_t made = DILKOVAN_WIDTH * (size_t)found[1] * sizeof(int32_t);
     settle(c.name, "out", out, result ? (const void *)result : inside(out), made, DILKOVAN_WIDTH * g * sizeof(int32_t) - made);
     settle(c.name, "terms", term, NULL, 0, terms * sizeof(uint64_t));
