@@ -6,7 +6,7 @@ use native.Mathlib.Omega.{arith}
 use lib.ListN.{length}
 use Rattle.rules.specs.Gate.{Gate}
 use Rattle.rules.specs.Plan.{planOf}
-use Rattle.rules.specs.Counts.{isTwo, isT, twos, ts}
+use Rattle.rules.specs.Counts.{isTwo, twos, spends, ts}
 use Rattle.rules.specs.Pass.{writerOf, pass, counts}
 use Rattle.rules.proofs.Bits.{split}
 use Rattle.rules.proofs.Passing.{changes-few}
@@ -25,7 +25,7 @@ twos-few (g ∷ gs) = split (isTwo (g .code)) (λ e. rw e (omega (arith, twos-fe
 ts-few : (gs : List Gate) → ts gs ≤ length gs
 unfolding ts
 ts-few [] = omega arith
-ts-few (g ∷ gs) = split (isT (g .code)) (λ e. rw e (omega (arith, ts-few gs))) (λ e. rw e (omega (arith, ts-few gs)))
+ts-few (g ∷ gs) = split (spends (g .code) (g .turn)) (λ e. rw e (omega (arith, ts-few gs))) (λ e. rw e (omega (arith, ts-few gs)))
 
 made-few : (q t : ℕ) (gs : List Gate) → length (pass q t gs .gates) ≤ length gs
 unfolding pass
