@@ -2,7 +2,7 @@
 use mathlib.Core.Path.{_≡_, refl, sym, ap, ap₂, _∙_}
 use mathlib.Core.Bool.{Bool, true, false, _&&_, _||_, cond, true≢false}
 use mathlib.Core.List.{List, [], _∷_}
-use Prim.Native.Nat.{ℕ, zero, suc, _+_, _-_, _^_, _≤_, _<_, max}
+use Prim.Native.Nat.{ℕ, zero, suc, _+_, _^_, _≤_, _<_}
 use native.Mathlib.Nat.{lt-of-not-le, le-of-suc-le-suc, not-suc-le-zero}
 use native.Mathlib.Numerals.{add-one}
 use native.Mathlib.Omega.{arith}
@@ -12,15 +12,14 @@ use lib.Dec.{leb}
 use borrow.Author.Tests.{ne-eqb, leb-true, leb-false}
 use Rattle.rules.specs.Bit.{bit}
 use Rattle.rules.specs.Fold.{Term}
-use Rattle.rules.specs.Walk.{side, score, beats, best}
+use Rattle.rules.specs.Walk.{side, beats}
 use Rattle.rules.specs.Shortcuts.{any}
 use Rattle.rules.proofs.Bits.{split, same, bit-zero}
 use Rattle.rules.proofs.Machine.{length-sides}
-use Rattle.rules.proofs.Choosing.{score-ones, best-take, best-skips}
 use Rattle.parity.specs.Columns.{clearLowest, Lowest}
 use Rattle.parity.proofs.Laws.{bit-clear, bit-high}
 use Rattle.terms.specs.Terms.{noTerm}
-use Rattle.column.specs.Choice.{Best}
+use Rattle.column.specs.Distance.{distance, fromEven, furthest, Furthest}
 use Rattle.column.specs.Planes.{one}
 
 -- ---- whether a term has the column, from the first term on
@@ -96,44 +95,52 @@ module _ (c : ℕ) where
     pub ones-le : (ones : ℕ) → ones ≡ with c ts → ones ≤ length ts
     ones-le ones e = omega (arith, length-sides c ts)
 
-    pub ones-score : (s count ones : ℕ) → s ≡ max ones (count - ones) → count ≡ length ts → ones ≡ with c ts → s ≡ score c ts
-    ones-score s count ones e k o =
-        let z : count - ones ≡ without c ts = omega (arith, length-sides c ts) in
-        e ∙ ap₂ max o z ∙ sym (score-ones c ts)
+    pub ones-distance : (d size ones : ℕ) → d ≡ distance ones size → size ≡ length ts → ones ≡ with c ts → d ≡ fromEven c ts
+    unfolding fromEven
+    ones-distance d size ones e k o = e ∙ ap₂ distance o k
 
 -- ---- the scan over the candidates, from the lowest up: those below `at` are behind it
 
 pub record Scanned (cands : ℕ) (ts : List Term) (left : ℕ) (kept : ℕ × ℕ) : Type 0 where
   pub at : ℕ
-  pub is : best at cands ts ≡ kept
+  pub is : furthest at cands ts ≡ kept
   pub below : (j : ℕ) → j < at → bit left j ≡ false
   pub above : (j : ℕ) → at ≤ j → bit left j ≡ bit cands j
   pub small : kept .0 < 128
 
 pub scan-first : (cands : ℕ) (ts : List Term) → Scanned cands ts cands (0, 0)
-unfolding best
+unfolding furthest
 scan-first cands ts = record { at = 0; is = refl; below = λ j h. absurd (not-suc-le-zero h); above = λ j h. refl; small = omega arith }
 
 module _ (cands : ℕ) (ts : List Term) (left : ℕ) (kept : ℕ × ℕ) (h : Scanned cands ts left kept) where
   -- from m up to j no candidate
-  skipped : (m j : ℕ) → m ≤ j → ((i : ℕ) → m ≤ i → i < j → bit cands i ≡ false) → best j cands ts ≡ best m cands ts
-  skipped m j l f =
-      let e : m + (j - m) ≡ j = omega arith in
-      ap (λ (z : ℕ). best z cands ts) (sym e) ∙ best-skips cands ts (j - m) m (λ i a b. f i a (omega arith))
+  skipped : (m j : ℕ) → m ≤ j → ((i : ℕ) → m ≤ i → i < j → bit cands i ≡ false) → furthest j cands ts ≡ furthest m cands ts
+  unfolding furthest
+  skipped zero zero l f = refl
+  skipped (suc m) zero l f = absurd (not-suc-le-zero l)
+  skipped m (suc j) l f =
+      same m (suc j)
+      (λ q _. ap (λ (z : ℕ). furthest z cands ts) (sym q))
+      (λ q _. rw (f j (omega arith) (omega arith)) (skipped m j (omega arith) (λ i a b. f i a (omega arith))))
 
-  pub scan-next : (t s : ℕ) (new : ℕ × ℕ) (rest : ℕ) → Lowest left t → t < 128 → s ≡ score t ts → new ≡ cond (beats (kept .1) s) (t, s) kept → rest ≡ clearLowest left
+  -- a candidate takes the place of the one kept where it is at least as far from even
+  taken : (m : ℕ) → bit cands m ≡ true → furthest (suc m) cands ts ≡ cond (beats (furthest m cands ts .1) (fromEven m ts)) (m, fromEven m ts) (furthest m cands ts)
+  unfolding furthest
+  taken m e = rw e
+
+  pub scan-next : (t d : ℕ) (new : ℕ × ℕ) (rest : ℕ) → Lowest left t → t < 128 → d ≡ fromEven t ts → new ≡ cond (beats (kept .1) d) (t, d) kept → rest ≡ clearLowest left
       → Scanned cands ts rest new
-  scan-next t s new rest low lt d e r =
+  scan-next t d new rest low lt far e r =
       let past : h .at ≤ t = le (λ (q : t < h .at). true≢false (sym (low .set) ∙ h .below t q)) in
-      let here : best t cands ts ≡ kept = skipped (h .at) t past (λ i a b. sym (h .above i a) ∙ low .below i b) ∙ h .is in
+      let here : furthest t cands ts ≡ kept = skipped (h .at) t past (λ i a b. sym (h .above i a) ∙ low .below i b) ∙ h .is in
       let hit : bit cands t ≡ true = sym (h .above t past) ∙ low .set in
       record {
         at = suc t;
-        is = best-take cands ts t hit ∙ rw (here, ← d) (sym e);
+        is = taken t hit ∙ rw (here, ← far) (sym e);
         below = λ j k. ap (λ (z : ℕ). bit z j) r ∙ bit-clear left t j low
             ∙ same j t (λ q f. rw f (off (bit left j))) (λ q f. rw (low .below j (omega arith)));
         above = λ j k. ap (λ (z : ℕ). bit z j) r ∙ bit-clear left t j low ∙ rw (ne-eqb j t (λ q. omega arith)) (on (bit left j) ∙ h .above j (omega arith));
-        small = rw e (split (beats (kept .1) s) (λ q. rw q lt) (λ q. rw q (h .small)));
+        small = rw e (split (beats (kept .1) d) (λ q. rw q lt) (λ q. rw q (h .small)));
       }
     where
       le : {a b : ℕ} → (b < a → ⊥) → a ≤ b
@@ -147,13 +154,13 @@ module _ (cands : ℕ) (ts : List Term) (left : ℕ) (kept : ℕ × ℕ) (h : Sc
       on true = refl
       on false = refl
 
-  pub scan-end : left ≡ 0 → Best ts cands (kept .0)
+  pub scan-end : left ≡ 0 → Furthest ts cands (kept .0)
   scan-end z = record { is = λ n k. ap (λ (b : ℕ × ℕ). b .0) (sym (whole n k)); small = h .small }
     where
       none : (j : ℕ) → h .at ≤ j → bit cands j ≡ false
       none j l = sym (h .above j l) ∙ ap (λ (v : ℕ). bit v j) z ∙ bit-zero j
 
-      whole : (n : ℕ) → cands < 2 ^ n → best n cands ts ≡ kept
+      whole : (n : ℕ) → cands < 2 ^ n → furthest n cands ts ≡ kept
       whole n k =
           split (leb (h .at) n)
           (λ q. skipped (h .at) n (leb-true (h .at) n q) (λ i a b. none i a) ∙ h .is)

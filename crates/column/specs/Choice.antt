@@ -8,11 +8,6 @@ use lib.ListN.{length}
 use Rattle.rules.specs.Bit.{bit}
 use Rattle.rules.specs.Fold.{Term}
 use Rattle.rules.specs.Walk.{side, score, best}
-use Rattle.column.specs.declared.Kept.{Kept}
-
--- a column with its score, as `best` has them
-abbrev pub pairOf : Kept → ℕ × ℕ
-pairOf k = (k .column, k .score)
 
 -- r has the candidates on which all parities agree: those whose larger side is the whole set
 pub record Agreed (ts : List Term) (cands r : ℕ) : Type 0 where

@@ -1,3 +1,4 @@
--- What the choice of a column promises, and the counts by planes.
+-- What the choice of a column promises, the paper's choice, and the counts by planes.
 pub mod Choice
+pub mod Distance
 pub mod Planes

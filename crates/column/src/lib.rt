@@ -1,8 +1,9 @@
-// The column by which a node of the walk is split: the candidate whose larger side is largest, on a tie the highest.
+// The column by which a node of the walk is split: the candidate whose split is furthest from even, on a tie the highest. Document 01 says it by the
+// larger side, and so do the contracts; `scan` says why that is the same choice.
 use parity::Parity;
 ghost use mathlib.Core.Path.{_≡_};
 ghost use mathlib.Core.Bool.{true, false, _&&_, cond};
-ghost use Prim.Native.Nat.{ℕ, _+_, _*_, _^_, _≤_, _<_, max};
+ghost use Prim.Native.Nat.{ℕ, _+_, _*_, _^_, _≤_, _<_};
 ghost use lib.ListN.{length, getD};
 ghost use lib.Dec.{eqb};
 ghost use Rattle.rules.specs.Bit.{bit};
@@ -11,13 +12,15 @@ ghost use Rattle.rules.specs.Shortcuts.{any};
 ghost use Rattle.parity.specs.View.{val};
 ghost use Rattle.terms.specs.Terms.{termsOf, noTerm};
 ghost use Rattle.rows.specs.Rows.{rowsOf};
-ghost use Rattle.column.specs.Choice.{pairOf, Agreed, Nearly, Best};
+ghost use Rattle.column.specs.Choice.{Agreed, Nearly, Best};
+ghost use Rattle.column.specs.Distance as Distance;
+ghost use Rattle.column.specs.Distance.{pairOf, Furthest};
 ghost use Rattle.column.specs.Planes.{one, tally, Sifted};
 
-// The best column so far, and its score.
+// The best column so far, and how far its split is from even.
 pub struct Kept {
     pub column: u32,
-    pub score: usize,
+    pub distance: usize,
 }
 
 // Candidates on which all parities agree, and on which all but one do.
@@ -168,7 +171,7 @@ fn sift(planes: &[u64], cands: Parity, flip: Parity) -> Parity
     left
 }
 
-// The highest of the candidates that most terms have, and the highest of those that fewest have: no other can have the larger side.
+// The highest of the candidates that most terms have, and the highest of those that fewest have: no other split can be further from even.
 fn ends(set: &[u64], cands: Parity, planes: &mut [u64]) -> Parity
     requires { ⌜ 0 < val cands ⌝ }
     requires { ⌜ length (termsOf (now set)) < 2 ^ length (rowsOf (now planes)) ⌝ }
@@ -189,35 +192,53 @@ fn digits(n: usize) -> usize
     (64 - u64::leading_zeros(n as u64)) as usize
 }
 
-// The larger of the two sides of a set.
-fn larger(a: usize, b: usize) -> usize
-    ensures { λ r. ⌜ r ≡ max a b ⌝ }
+// How far a split is from even: the distance between twice the ones and the set's size.
+fn distance(ones: usize, size: usize) -> usize
+    requires { ⌜ 2 * ones < 2 ^ 64 ⌝ }
+    ensures { λ r. ⌜ r ≡ Distance.distance ones size ⌝ }
 {
-    if a < b { b } else { a }
+    let twice = 2 * ones;
+    if twice < size {
+        size - twice
+    } else {
+        twice - size
+    }
 }
 
-// A column takes the place of the best so far, on a tie too.
-fn better(old: Kept, new: Kept) -> Kept
-    ensures { λ r. ⌜ pairOf r ≡ cond (beats (old .score) (new .score)) (pairOf new) (pairOf old) ⌝ }
+// The column whose split is further from even; on a tie the new one, which is the higher.
+fn further(old: Kept, new: Kept) -> Kept
+    ensures { λ r. ⌜ pairOf r ≡ cond (beats (old .distance) (new .distance)) (pairOf new) (pairOf old) ⌝ }
 {
-    if old.score <= new.score { new } else { old }
+    if old.distance <= new.distance {
+        new
+    } else {
+        old
+    }
 }
 
-// The best candidate, from the lowest column up, each counted by a pass over the set.
+// The paper's choice: of the candidates, from the lowest column up, the one whose split is furthest from even, on a tie the highest.
+// It is document 01's choice, by the larger side, because twice the larger side is the size plus the distance, and the size is that of the whole set
+// whichever column splits it: the larger the one, the larger the other.
 fn scan(set: &[u64], cands: Parity) -> u32
-    ensures { λ r. ⌜ Best (termsOf (now (set .entry))) (val cands) r ⌝ }
+    ensures { λ r. ⌜ Furthest (termsOf (now (set .entry))) (val cands) r ⌝ }
 {
-    let count = set.len() / 3;
+    let size = set.len() / 3;
     let mut kept = Kept {
         column: 0,
-        score: 0,
+        distance: 0,
     };
     let mut left = cands;
     while !left.is_zero() {
         let column = left.lowest();
         let ones = count_ones(set, column);
-        let score = larger(ones, count - ones);
-        kept = better(kept, Kept { column, score });
+        let far = distance(ones, size);
+        kept = further(
+            kept,
+            Kept {
+                column,
+                distance: far,
+            },
+        );
         left = left.clear_lowest();
     }
     kept.column
@@ -237,8 +258,8 @@ pub fn best_counted(set: &[u64], cands: Parity) -> u32
     scan(set, left)
 }
 
-// A column on which all parities agree has the largest score there is, and where there is none, one on which all but one agree: the highest of
-// these wins, and nothing is counted.
+// No split is further from even than by a column on which all parities agree, and where there is none, by one on which all but one agree: the highest
+// of these wins, and nothing is counted.
 pub fn best_column(set: &[u64], cands: Parity) -> u32
     requires { ⌜ 0 < length (termsOf (now set)) ⌝ }
     ensures { λ r. ⌜ Best (termsOf (now (set .entry))) (val cands) r ⌝ }

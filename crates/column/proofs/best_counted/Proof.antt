@@ -1,4 +1,4 @@
--- `column::best_counted` meets its contract: the best of the two ends is the best.
+-- `column::best_counted` meets its contract: of the two ends the one furthest from even has the larger side, and it is the best.
 use mathlib.Core.Path.{sym, _∙_}
 use native.Mathlib.Nat.{pos-of-ne-zero}
 use native.Mathlib.Omega.{arith}
@@ -8,6 +8,7 @@ use borrow.Author.Needs.{needs}
 use borrow.Author.Tests.{eqb-true, eqb-false}
 use Rattle.terms.proofs.Room.{room-length}
 use Rattle.column.proofs.Adding.{clear-planes}
+use Rattle.column.proofs.Distances.{furthest-best}
 use Rattle.column.proofs.Sifting.{none-best}
 use Rattle.column.proofs.best_counted.Statement.{statement}
 use Rattle.column.proofs.best_counted.Tie as tie
@@ -40,7 +41,7 @@ scan-requires : tie.Need-scan-requires
 scan-requires c κs = tt
 
 returns-2 : tie.Need-returns-2
-returns-2 c = (c .before .before) .ends .ensures _ (c .scan .ensures)
+returns-2 c = (c .before .before) .ends .ensures _ (furthest-best _ _ _ (c .scan .ensures))
 
 pub best-counted-spec : {M : Type 1} → statement M
 best-counted-spec =

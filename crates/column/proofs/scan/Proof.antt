@@ -1,4 +1,5 @@
--- `column::scan` meets its contract. The loop's invariant is `Scanned`: of the candidates below some column the best is kept, and the others are left.
+-- `column::scan` meets its contract. The loop's invariant is `Scanned`: of the candidates below some column the one furthest from even is kept, and the
+-- others are left.
 -- The measure is the columns left, as a number.
 use mathlib.Core.Path.{sym, _∙_}
 use Prim.Native.Nat.{_<_}
@@ -9,16 +10,16 @@ use Rattle.parity.specs.View.{val}
 use Rattle.parity.proofs.Laws.{clear-lt}
 use Rattle.terms.specs.Terms.{termsOf}
 use Rattle.terms.proofs.Room.{room-length}
-use Rattle.column.specs.Choice.{pairOf}
-use Rattle.column.proofs.Scanning.{Scanned, scan-first, scan-next, scan-end, ones-le, ones-score}
+use Rattle.column.specs.Distance.{pairOf}
+use Rattle.column.proofs.Scanning.{Scanned, scan-first, scan-next, scan-end, ones-le, ones-distance}
 use Rattle.column.proofs.scan.Statement.{statement}
 use Rattle.column.proofs.scan.Tie as tie
 
 abbrev Inv-loop : tie.InvT-loop
-Inv-loop set count kept₀ left₀ kept left = Scanned (val left₀) (termsOf set) (val left) (pairOf kept)
+Inv-loop set size kept₀ left₀ kept left = Scanned (val left₀) (termsOf set) (val left) (pairOf kept)
 
 abbrev μ-loop : tie.MeasureT-loop
-μ-loop set count kept₀ left₀ kept left = val left
+μ-loop set size kept₀ left₀ kept left = val left
 
 -- a column is left
 
@@ -31,8 +32,8 @@ loop-holds c = scan-first _ _
 count-ones-requires : tie.Need-count-ones-requires Inv-loop μ-loop
 count-ones-requires c κs = c .lowest .ensures .small (some (c .before))
 
-sub-larger : tie.Need-sub-larger Inv-loop μ-loop
-sub-larger c = omega (arith, ones-le _ _ _ (c .count-ones .ensures), room-length ((c .before .before .before .before .before .before) .args .set .now))
+distance-requires : tie.Need-distance-requires Inv-loop μ-loop
+distance-requires c κs = omega (arith, ones-le _ _ _ (c .count-ones .ensures), room-length ((c .before .before .before .before .before .before) .args .set .now))
 
 loop-less : tie.Need-loop-less Inv-loop μ-loop
 loop-less c = rw (c .clear-lowest .ensures) (clear-lt _ (some (c .before .before .before .before .before)))
@@ -42,7 +43,7 @@ loop-again c =
     let some-left = some (c .before .before .before .before .before) in
     let r = room-length ((c .before .before .before .before .before .before .before .before .before) .args .set .now) in
     scan-next _ _ _ _ ((c .before .before .before .before .before .before .before) .loop .inv) _ _ _ _ ((c .before .before .before .before) .lowest .ensures .low some-left) ((c .before .before .before .before) .lowest .ensures .small some-left)
-    (ones-score _ _ _ _ _ ((c .before .before) .larger .ensures) (omega arith) ((c .before .before .before) .count-ones .ensures)) ((c .before) .better .ensures) (c .clear-lowest .ensures)
+    (ones-distance _ _ _ _ _ ((c .before .before) .distance .ensures) (omega arith) ((c .before .before .before) .count-ones .ensures)) ((c .before) .further .ensures) (c .clear-lowest .ensures)
 
 returns : tie.Need-returns Inv-loop μ-loop
 returns c =
@@ -54,11 +55,8 @@ is-zero-requires c κs = tt
 lowest-requires : tie.Need-lowest-requires Inv-loop μ-loop
 lowest-requires c κs = tt
 
-larger-requires : tie.Need-larger-requires Inv-loop μ-loop
-larger-requires c κs = tt
-
-better-requires : tie.Need-better-requires Inv-loop μ-loop
-better-requires c κs = tt
+further-requires : tie.Need-further-requires Inv-loop μ-loop
+further-requires c κs = tt
 
 clear-lowest-requires : tie.Need-clear-lowest-requires Inv-loop μ-loop
 clear-lowest-requires c κs = tt
@@ -73,9 +71,8 @@ scan-spec =
     is-zero-requires
     lowest-requires
     count-ones-requires
-    sub-larger
-    larger-requires
-    better-requires
+    distance-requires
+    further-requires
     clear-lowest-requires
     loop-less
     loop-again
