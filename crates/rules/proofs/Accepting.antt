@@ -12,7 +12,7 @@ use lib.IntN.{ℤ, pos, negsuc}
 use lib.ListN.{length, getD}
 use Rattle.rules.specs.Limits.{width, lastCode, maxGates, maxWires, maxBits, termWidth, stepWidth, termEntries, stepEntries}
 use Rattle.rules.specs.Gate.{Gate, from, second, bitted, third, turned}
-use Rattle.rules.specs.Numbers.{natOf, inside, same, field, gateAt, gatesFrom, gatesOf, numbers, numbersOf}
+use Rattle.rules.specs.Numbers.{natOf, inside, same, negative, field, gateAt, gatesFrom, gatesOf, numbers, numbersOf}
 use Rattle.rules.specs.Refusal.{Refusal, Fault, Verdict, accepted, refused, tell, none, firstOf, ruled, nought, unused, apart, gateTests, faultOf, faultAt, wholeFault, faultsFrom, verdict}
 use Rattle.rules.proofs.Bits.{split}
 use Rattle.rules.proofs.Reading.{field-after, length-numbers, Natural, write-natural}
@@ -190,19 +190,24 @@ coded-pos : (z : ℤ) → 1 ≤ natOf z → pos (natOf z) ≡ z
 coded-pos (pos k) h = refl
 coded-pos (negsuc k) h = absurd (omega arith)
 
+lined-pos : (z : ℤ) → negative z ≡ false → pos (natOf z) ≡ z
+lined-pos (pos k) h = refl
+lined-pos (negsuc k) h = absurd (false≢true (sym h))
+
 -- two such fields are the same where their numbers are
 same-pos : (x y : ℤ) → pos (natOf x) ≡ x → pos (natOf y) ≡ y → natOf x ≡ natOf y → same x y ≡ true
 same-pos x y p q e = rw (← p, ← q) (eq-eqb (natOf x) (natOf y) e)
 
--- the four fields that are wires, bits or codes are no negative numbers
-pub record Signless (c x y z : ℤ) : Type 0 where
+-- the five fields that are wires, bits, codes or lines are no negative numbers
+pub record Signless (c x y z s : ℤ) : Type 0 where
   pub code : pos (natOf c) ≡ c
   pub first : pos (natOf x) ≡ x
   pub second : pos (natOf y) ≡ y
   pub third : pos (natOf z) ≡ z
+  pub line : pos (natOf s) ≡ s
 
 -- what the tests say, where none fails
-record Passed (w b : ℕ) (code x y z t : ℤ) : Type 0 where
+record Passed (w b : ℕ) (code x y z t s : ℤ) : Type 0 where
   coded : from 1 lastCode (natOf code) ≡ true
   free : unused (natOf code) y z t ≡ true
   first-is : inside x w ≡ true
@@ -210,25 +215,27 @@ record Passed (w b : ℕ) (code x y z t : ℤ) : Type 0 where
   bit-is : bitted (natOf code) ≡ true → inside y b ≡ true
   third-is : third (natOf code) ≡ true → inside z w ≡ true
   distinct : apart (natOf code) x y z ≡ true
+  lined : negative s ≡ false
 
 -- a part of what is wrong with a gate, test by test
-pub fault-part : (f : Fault → ℕ) (w b : ℕ) (code x y z t : ℤ) → f (faultOf w b code x y z t) ≡ firstOf (parts f (gateTests (natOf code) w b x y z t)) (f none)
+pub fault-part : (f : Fault → ℕ) (w b : ℕ) (code x y z t s : ℤ) → f (faultOf w b code x y z t s) ≡ firstOf (parts f (gateTests (natOf code) w b x y z t s)) (f none)
 unfolding faultOf
-fault-part f w b code x y z t = first-map f (gateTests (natOf code) w b x y z t) none
+fault-part f w b code x y z t s = first-map f (gateTests (natOf code) w b x y z t s) none
 
-module _ (w b : ℕ) (code x y z t : ℤ) (h : faultOf w b code x y z t .number ≡ 0) where
+module _ (w b : ℕ) (code x y z t s : ℤ) (h : faultOf w b code x y z t s .number ≡ 0) where
   abbrev c : ℕ
   c = natOf code
 
-  passed : Passed w b code x y z t
+  passed : Passed w b code x y z t s
   passed =
-      let p6 = none-first (not (from 1 lastCode c)) 5 _ (sym (fault-part (λ f. f .number) w b code x y z t) ∙ h) in
+      let p6 = none-first (not (from 1 lastCode c)) 5 _ (sym (fault-part (λ f. f .number) w b code x y z t s) ∙ h) in
       let p7 = none-first (not (unused c y z t)) 6 _ (p6 .1) in
       let p1 = none-first (not (inside x w)) 7 _ (p7 .1) in
       let p2 = none-first (second c && not (inside y w)) 7 _ (p1 .1) in
       let pb = none-first (bitted c && not (inside y b)) 13 _ (p2 .1) in
       let p3 = none-first (third c && not (inside z w)) 7 _ (pb .1) in
       let p9 = none-first (not (apart c x y z)) 8 _ (p3 .1) in
+      let p18 = none-first (negative s) 17 _ (p9 .1) in
       record {
         coded = not-false (from 1 lastCode c) (p6 .0);
         free = not-false (unused c y z t) (p7 .0);
@@ -237,6 +244,7 @@ module _ (w b : ℕ) (code x y z t : ℤ) (h : faultOf w b code x y z t .number 
         bit-is = given (bitted c) (inside y b) (pb .0);
         third-is = given (third c) (inside z w) (p3 .0);
         distinct = not-false (apart c x y z) (p9 .0);
+        lined = p18 .0;
       }
 
   code-in : (1 ≤ c) × (c ≤ lastCode)
@@ -263,8 +271,8 @@ module _ (w b : ℕ) (code x y z t : ℤ) (h : faultOf w b code x y z t .number 
   third-pos : pos (natOf z) ≡ z
   third-pos = split (third c) (λ e. inside-pos z w (passed .third-is e) .0) (λ e. let u = third-none e in ap (λ (v : ℤ). pos (natOf v)) u ∙ sym u)
 
-  pub signless : Signless code x y z
-  signless = record { code = coded-pos code (code-in .0); first = inside-pos x w (passed .first-is) .0; second = second-pos; third = third-pos }
+  pub signless : Signless code x y z s
+  signless = record { code = coded-pos code (code-in .0); first = inside-pos x w (passed .first-is) .0; second = second-pos; third = third-pos; line = lined-pos s (passed .lined) }
 
   pub fit : Fit w b c (natOf x) (natOf y) (natOf z) t
   fit =
@@ -285,12 +293,12 @@ module _ (w b : ℕ) (code x y z t : ℤ) (h : faultOf w b code x y z t .number 
 
 -- ---- gates
 
--- the gate's own five numbers are not refused
+-- the gate's own six numbers are not refused
 abbrev pub Sound : ℕ → ℕ → Gate → Type 0
-Sound w b g = faultOf w b (pos (g .code)) (pos (g .first)) (pos (g .second)) (pos (g .third)) (g .turn) .number ≡ 0
+Sound w b g = faultOf w b (pos (g .code)) (pos (g .first)) (pos (g .second)) (pos (g .third)) (g .turn) (pos (g .line)) .number ≡ 0
 
-pub sound-by : (w b : ℕ) (g : Gate) → firstOf (parts (λ f. f .number) (gateTests (g .code) w b (pos (g .first)) (pos (g .second)) (pos (g .third)) (g .turn))) 0 ≡ 0 → Sound w b g
-sound-by w b g e = fault-part (λ f. f .number) w b (pos (g .code)) (pos (g .first)) (pos (g .second)) (pos (g .third)) (g .turn) ∙ e
+pub sound-by : (w b : ℕ) (g : Gate) → firstOf (parts (λ f. f .number) (gateTests (g .code) w b (pos (g .first)) (pos (g .second)) (pos (g .third)) (g .turn) (pos (g .line)))) 0 ≡ 0 → Sound w b g
+sound-by w b g e = fault-part (λ f. f .number) w b (pos (g .code)) (pos (g .first)) (pos (g .second)) (pos (g .third)) (g .turn) (pos (g .line)) ∙ e
 
 unfoldable pub SoundAll : ℕ → ℕ → List Gate → Type 0
 SoundAll w b [] = Unit {0}
@@ -316,28 +324,31 @@ sound-at w b (g ∷ gs) (suc i) d h k = sound-at w b gs i d (h .1) (le-of-suc-le
 
 pub fit-at : (l : List ℤ) (w b i : ℕ) → faultAt l w b i .number ≡ 0 → Fit w b (gateAt l i .code) (gateAt l i .first) (gateAt l i .second) (gateAt l i .third) (gateAt l i .turn)
 unfolding faultAt gateAt
-fit-at l w b i h = fit w b (field l i 0) (field l i 1) (field l i 2) (field l i 3) (field l i 4) h
+fit-at l w b i h = fit w b (field l i 0) (field l i 1) (field l i 2) (field l i 3) (field l i 4) (field l i 5) h
 
-signless-at : (l : List ℤ) (w b i : ℕ) → faultAt l w b i .number ≡ 0 → Signless (field l i 0) (field l i 1) (field l i 2) (field l i 3)
+signless-at : (l : List ℤ) (w b i : ℕ) → faultAt l w b i .number ≡ 0 → Signless (field l i 0) (field l i 1) (field l i 2) (field l i 3) (field l i 5)
 unfolding faultAt
-signless-at l w b i h = signless w b (field l i 0) (field l i 1) (field l i 2) (field l i 3) (field l i 4) h
+signless-at l w b i h = signless w b (field l i 0) (field l i 1) (field l i 2) (field l i 3) (field l i 4) (field l i 5) h
 
 natural-at : (l : List ℤ) (w b i : ℕ) → faultAt l w b i .number ≡ 0 → Natural l i
-natural-at l w b i h k hk = go k hk (signless-at l w b i h)
+natural-at l w b i h k hk ht = go k hk ht (signless-at l w b i h)
   where
-    go : (k : ℕ) → k < 4 → Signless (field l i 0) (field l i 1) (field l i 2) (field l i 3) → pos (natOf (field l i k)) ≡ field l i k
-    go zero hk s = s .code
-    go (suc zero) hk s = s .first
-    go (suc (suc zero)) hk s = s .second
-    go (suc (suc (suc zero))) hk s = s .third
-    go (suc (suc (suc (suc k)))) hk s = absurd (omega arith)
+    go : (k : ℕ) → k < width → k ≢ 4 → Signless (field l i 0) (field l i 1) (field l i 2) (field l i 3) (field l i 5) → pos (natOf (field l i k)) ≡ field l i k
+    go zero hk ht s = s .code
+    go (suc zero) hk ht s = s .first
+    go (suc (suc zero)) hk ht s = s .second
+    go (suc (suc (suc zero))) hk ht s = s .third
+    go (suc (suc (suc (suc zero)))) hk ht s = absurd (ht refl)
+    go (suc (suc (suc (suc (suc zero))))) hk ht s = s .line
+    go (suc (suc (suc (suc (suc (suc k)))))) hk ht s = absurd (omega arith)
 
-signless-fault : (w b : ℕ) (c x y z t : ℤ) → Signless c x y z → faultOf w b (pos (natOf c)) (pos (natOf x)) (pos (natOf y)) (pos (natOf z)) t ≡ faultOf w b c x y z t
-signless-fault w b c x y z t s = rw (s .code, s .first, s .second, s .third)
+signless-fault : (w b : ℕ) (c x y z t s : ℤ) → Signless c x y z s
+    → faultOf w b (pos (natOf c)) (pos (natOf x)) (pos (natOf y)) (pos (natOf z)) t (pos (natOf s)) ≡ faultOf w b c x y z t s
+signless-fault w b c x y z t s h = rw (h .code, h .first, h .second, h .third, h .line)
 
 pub sound-gate : (l : List ℤ) (w b i : ℕ) → faultAt l w b i .number ≡ 0 → Sound w b (gateAt l i)
 unfolding faultAt gateAt
-sound-gate l w b i h = ap (λ (f : Fault). f .number) (signless-fault w b (field l i 0) (field l i 1) (field l i 2) (field l i 3) (field l i 4) (signless-at l w b i h)) ∙ h
+sound-gate l w b i h = ap (λ (f : Fault). f .number) (signless-fault w b (field l i 0) (field l i 1) (field l i 2) (field l i 3) (field l i 4) (field l i 5) (signless-at l w b i h)) ∙ h
 
 sound-from : (l : List ℤ) (w b n i : ℕ) → ((j : ℕ) → j < n → faultAt l w b (i + j) .number ≡ 0) → SoundAll w b (gatesFrom l n i)
 unfolding SoundAll gatesFrom
@@ -365,7 +376,7 @@ fault-after : (r l : List ℤ) → length r ≡ width → (w b i : ℕ) → faul
 unfolding faultAt
 fault-after r l e w b i =
     let f : (k : ℕ) → field (r ++ l) (suc i) k ≡ field l i k = field-after r l e i in
-    rw (f 0, f 1, f 2, f 3, f 4)
+    rw (f 0, f 1, f 2, f 3, f 4, f 5)
 
 pub sound-written : (w b : ℕ) (gs : List Gate) → SoundAll w b gs → (i : ℕ) → i < length gs → faultAt (numbersOf gs) w b i .number ≡ 0
 unfolding SoundAll numbersOf faultAt

@@ -1,4 +1,4 @@
--- Worked lists for the refusals 1 to 9 and 14 and for none, by computing: one table, one statement.
+-- Worked lists for the refusals 1 to 9, 14 and 18 and for none, by computing: one table, one statement.
 use mathlib.Core.Path.{_≡_, refl}
 use mathlib.Core.List.{List, [], _∷_, _++_, map}
 use Prim.Native.Nat.{ℕ, _+_, _*_}
@@ -16,8 +16,12 @@ pub record Case : Type 0 where
   pub steps : ℕ
   pub answer : Verdict
 
+abbrev pub lined : ℤ → ℕ → ℤ → ℤ → ℤ → ℤ → List ℤ
+lined s c x y z t = pos c ∷ x ∷ y ∷ z ∷ t ∷ s ∷ []
+
+-- on line 3
 abbrev pub gate : ℕ → ℤ → ℤ → ℤ → ℤ → List ℤ
-gate c x y z t = pos c ∷ x ∷ y ∷ z ∷ t ∷ []
+gate c x y z t = lined (pos 3) c x y z t
 
 -- t on wire 0
 abbrev pub t0 : List ℤ
@@ -25,7 +29,7 @@ t0 = gate 2 (pos 0) (pos 0) (pos 0) (pos 0)
 
 -- two gates, of which the second, at place 1, is in question
 abbrev pub pair : List ℤ → Verdict → Case
-pair g v = record { list = t0 ++ g; wires = 2; out = 10; terms = 18; steps = 260; answer = v }
+pair g v = record { list = t0 ++ g; wires = 2; out = 12; terms = 18; steps = 260; answer = v }
 
 -- it is refused by that number, and in that field
 abbrev pub second : ℕ → ℕ → List ℤ → Case
@@ -40,11 +44,11 @@ cases =
     ∷ pair (gate 27 (pos 0) (pos 0) (pos 0) (pos 0)) accepted
     -- a number too few; a gate too many; a wire too many; output, term and step room a number short
     ∷ pair (pos 2 ∷ []) (whole 1)
-    ∷ record { list = replicate (width * maxGates + width) (pos 0); wires = 2; out = 10; terms = 18; steps = 260; answer = whole 2 }
+    ∷ record { list = replicate (width * maxGates + width) (pos 0); wires = 2; out = 12; terms = 18; steps = 260; answer = whole 2 }
     ∷ record { list = []; wires = maxWires + 1; out = 0; terms = 0; steps = 256; answer = whole 3 }
-    ∷ record { list = t0; wires = 2; out = 4; terms = 9; steps = 258; answer = whole 4 }
-    ∷ record { list = t0; wires = 2; out = 5; terms = 8; steps = 258; answer = whole 5 }
-    ∷ record { list = t0; wires = 2; out = 5; terms = 9; steps = 257; answer = whole 5 }
+    ∷ record { list = t0; wires = 2; out = 5; terms = 9; steps = 258; answer = whole 4 }
+    ∷ record { list = t0; wires = 2; out = 6; terms = 8; steps = 258; answer = whole 5 }
+    ∷ record { list = t0; wires = 2; out = 6; terms = 9; steps = 257; answer = whole 5 }
     -- no such code; a turn on t, before a wire that isn't there; a second on x; an unused third of a cnot, before its wires
     ∷ second 6 0 (gate 28 (pos 0) (pos 0) (pos 0) (pos 0))
     ∷ second 7 0 (gate 2 (pos 2) (pos 0) (pos 0) (pos 1))
@@ -62,6 +66,10 @@ cases =
     -- a wire twice, behind all fields
     ∷ second 9 0 (gate 8 (pos 1) (pos 1) (pos 0) (pos 0))
     ∷ second 8 3 (gate 24 (pos 1) (pos 1) (pos 2) (pos 0))
+    -- a negative line, behind all of these; the greatest line is right
+    ∷ second 18 0 (lined (negsuc 0) 10 (pos 0) (pos 0) (pos 0) (pos 0))
+    ∷ second 9 0 (lined (negsuc 0) 8 (pos 1) (pos 1) (pos 0) (pos 0))
+    ∷ pair (lined (pos 2147483647) 10 (pos 0) (pos 0) (pos 0) (pos 0)) accepted
     ∷ []
 
 pub worked : map (λ (c : Case). verdict (c .list) (c .wires) 1 (c .out) (c .terms) (c .steps)) cases ≡ map (λ (c : Case). c .answer) cases

@@ -16,6 +16,7 @@ pub mod Bounds
 pub mod Depth
 pub mod Counting
 pub mod Passing
+pub mod Stamping
 pub mod Odd
 pub mod Resynthesis
 pub mod Spending

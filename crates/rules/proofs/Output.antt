@@ -14,13 +14,14 @@ use borrow.Author.Tests.{lt-leb, lt-ltb, ne-eqb}
 use Rattle.rules.specs.Limits.{width}
 use Rattle.rules.specs.Gate.{Gate, from, gate1, gate2, codeX, codeT, codeTdg, codeS, codeSdg, codeZ, codeCnot}
 use Rattle.rules.specs.Numbers.{gatesOf, numbersOf}
-use Rattle.rules.specs.Refusal.{accepted, verdict}
+use Rattle.rules.specs.Refusal.{accepted, faultOf, verdict}
 use Rattle.rules.specs.Meaning.{Op, flip, phase, cnot, cz, other, opOf, op}
 use Rattle.rules.specs.Fold.{Row, Block, fresh, empty, joined, rowOf, addRow, join, entered, rowsBy, absorb, fold}
 use Rattle.rules.specs.Walk.{Step, cn, rot}
 use Rattle.rules.specs.Synth.{rotation, emit, flipsOf, synth, blockOf, orElse, resynthesis}
 use Rattle.rules.specs.Plan.{Plan, planOf}
 use Rattle.rules.specs.Scan.{Piece, copied, block, piecesOf, textOf, Writer, Plain, replaces, chosen, finish, passBy}
+use Rattle.rules.specs.Lines.{stamp, lineOf, lined}
 use Rattle.rules.specs.Promise.{Held}
 use Rattle.rules.specs.Pass.{writerOf, pass}
 use Rattle.rules.proofs.Bits.{split}
@@ -60,7 +61,7 @@ acts w b (suc (suc (suc (suc (suc (suc (suc (suc (suc (suc c)))))))))) x y z t f
 
 pub sound-op : (w b : ℕ) (g : Gate) → Sound w b g → SoundOp w (op g)
 unfolding op
-sound-op w b g h = acts w b (g .code) (g .first) (g .second) (g .third) (g .turn) (fit w b (pos (g .code)) (pos (g .first)) (pos (g .second)) (pos (g .third)) (g .turn) h)
+sound-op w b g h = acts w b (g .code) (g .first) (g .second) (g .third) (g .turn) (fit w b (pos (g .code)) (pos (g .first)) (pos (g .second)) (pos (g .third)) (g .turn) (pos (g .line)) h)
 
 sane-op : (w : ℕ) (o : Op) → SoundOp w o → SaneOp o
 sane-op w (flip q) h = tt
@@ -207,6 +208,12 @@ resynthesis-sound w b gs s = go (synth (blockOf gs)) refl
     go none e = s
     go (some new) e = sound-synth w b (blockOf gs) new (apart-block gs) (below-block w b gs s) e
 
+-- no line that the pass gives is refused
+pub stamp-sound : (w b n : ℕ) (gs : List Gate) → SoundAll w b gs → SoundAll w b (stamp n gs)
+unfolding SoundAll stamp faultOf
+stamp-sound w b n [] h = tt
+stamp-sound w b n (g ∷ gs) h = (h .0, stamp-sound w b n gs (h .1))
+
 -- ---- the pass over any writer
 
 finish-length : (write : Writer) (ps : List Piece) → length (finish write ps .gates) ≤ length (textOf ps)
@@ -256,8 +263,8 @@ module _ (w b : ℕ) (write : Writer) (keeps : KeepsSound w b write) where
 -- ---- document 01's pass
 
 pub plan-sound : (w b : ℕ) (p : Plan) → KeepsSound w b (writerOf p)
-unfolding writerOf
-plan-sound w b p gs h s = resynthesis-sound w b gs s
+unfolding writerOf lined
+plan-sound w b p gs h s = stamp-sound w b (lineOf gs) (resynthesis gs) (resynthesis-sound w b gs s)
 
 pub output-accepted : (l : List ℤ) (w b out terms steps : ℕ) → verdict l w b out terms steps ≡ accepted
     → (q t : ℕ) → verdict (numbersOf (pass q t (gatesOf l) .gates)) w b out terms steps ≡ accepted

@@ -17,7 +17,7 @@ use Rattle.rules.specs.Counts.{twos, spends, ts, cheaper, Thrifty, uncha
 use Rattle.rules.specs.Fold.{Block, empty}
 use Rattle.rules.specs.Synth.{blockOf}
 use Rattle.rules.specs.Scan.{takes, Piece, copied, block, closed, cut, piecesOf, textOf, Writer, Plain, Lawful, Sparing, chosen, replaces, Result, finish, passBy}
-use Rattle.rules.specs.Promise.{Held, Changes, end, copy, keep, replace, Exactly, Promised}
+use Rattle.rules.specs.Promise.{Held, Changes, end, copy, keep, replace, Exactly}
 use Rattle.rules.proofs.Bits.{split, and-left, and-right}
 use Rattle.rules.proofs.Emitting.{wires-app, phases-app, map-app}
 
@@ -297,16 +297,3 @@ ts-paired (a ∷ as′) (b ∷ bs) h =
 -- so neither does the list: the gates between the stretches are the same
 pub no-more : (new old : List Gate) → Stretchwise NoMoreT new old → NoMoreT new old
 no-more new old h = omega (arith, ts-parts new, ts-parts old, h .first, ts-paired (parts new .rest) (parts old .rest) (h .rest))
-
--- ---- demand 3, and T, for any writer that keeps the two laws
-
-pub promised-by : (write : Writer) → Lawful write → Sparing write → (p : Plan) (gs : List Gate) → Promised write p gs (passBy write p gs)
-promised-by write law sparing p gs =
-    let s = spared write (law .plain) sparing p gs in
-    record {
-      alike = stretches write law p gs;
-      thrifty = stretch-by-stretch write (law .plain) p gs;
-      exactly = exactly write p gs;
-      sparing = s;
-      spent = no-more (passBy write p gs .gates) gs s;
-    }

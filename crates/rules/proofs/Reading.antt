@@ -1,5 +1,6 @@
 -- Reading a list of numbers and writing one: each undoes the other.
 use mathlib.Core.Path.{_≡_, refl, sym, ap, ap₂, _∙_}
+use mathlib.Core.Logic.{_≢_}
 use mathlib.Core.List.{List, [], _∷_, _++_, append-nil}
 use Prim.Native.Nat.{ℕ, zero, suc, _+_, _*_, _/_, _%_, _≤_, _<_, zero-le, suc-le-suc}
 use native.Mathlib.Nat.{not-suc-le-zero, le-of-suc-le-suc}
@@ -24,7 +25,7 @@ module _ (r l : List ℤ) (e : length r ≡ width) where
   unfolding gateAt
   gate-after i =
       let f : (k : ℕ) → field (r ++ l) (suc i) k ≡ field l i k = field-after i in
-      rw (f 0, f 1, f 2, f 3, f 4)
+      rw (f 0, f 1, f 2, f 3, f 4, f 5)
 
   pub gates-after : (n i : ℕ) → gatesFrom (r ++ l) n (suc i) ≡ gatesFrom l n i
   unfolding gatesFrom
@@ -91,9 +92,9 @@ from-append l (suc m) n i =
 
 -- ---- read, then written
 
--- field k of gate i is no negative number
+-- no field of gate i is a negative number, but perhaps its turn
 abbrev pub Natural : List ℤ → ℕ → Type 0
-Natural l i = (k : ℕ) → k < 4 → pos (natOf (field l i k)) ≡ field l i k
+Natural l i = (k : ℕ) → k < width → k ≢ 4 → pos (natOf (field l i k)) ≡ field l i k
 
 -- n numbers by their places
 abbrev entries : ℕ → (ℕ → ℤ) → List ℤ
@@ -114,7 +115,8 @@ module _ (r l : List ℤ) (e : length r ≡ width) where
   row-written : Natural (r ++ l) zero → numbers (gateAt (r ++ l) zero) ≡ r
   unfolding gateAt
   row-written f =
-      rw (f 0 (omega arith), f 1 (omega arith), f 2 (omega arith), f 3 (omega arith))
+      let at : (k : ℕ) → k < width → k ≢ 4 → pos (natOf (field (r ++ l) zero k)) ≡ field (r ++ l) zero k = f in
+      rw (at 0 (omega arith) (λ e. omega arith), at 1 (omega arith) (λ e. omega arith), at 2 (omega arith) (λ e. omega arith), at 3 (omega arith) (λ e. omega arith), at 5 (omega arith) (λ e. omega arith))
       (entries-before r l width (omega arith) ∙ ap (λ (n : ℕ). entries n (λ k. getD r k (pos 0))) (sym e) ∙ entries-are r)
 
   written-after : (n : ℕ) → Natural (r ++ l) zero → numbersOf (gatesFrom l n zero) ≡ l → numbersOf (gatesFrom (r ++ l) (suc n) zero) ≡ r ++ l
@@ -122,7 +124,7 @@ module _ (r l : List ℤ) (e : length r ≡ width) where
   written-after n f ih = ap₂ _++_ (row-written f) (ap numbersOf (gates-after r l e n zero) ∙ ih)
 
   natural-after : (i : ℕ) → Natural (r ++ l) (suc i) → Natural l i
-  natural-after i h k hk = rw (field-after r l e i k) at (h k hk)
+  natural-after i h k hk ht = rw (field-after r l e i k) at (h k hk ht)
 
 written : (n : ℕ) (l : List ℤ) → length l ≡ width * n → ((i : ℕ) → i < n → Natural l i) → numbersOf (gatesFrom l n zero) ≡ l
 unfolding numbersOf gatesFrom

@@ -11,6 +11,7 @@ use Rattle.rules.specs.Meaning.{turn8, op, opOf, when1, moved, added, wi
 use Rattle.rules.specs.Counts.{twos, ts}
 use Rattle.rules.specs.Synth.{resynthesis}
 use Rattle.rules.specs.Scan.{Result}
+use Rattle.rules.specs.Lines.{withLine}
 use Rattle.rules.specs.Pass.{pass, counts}
 
 abbrev x : ℕ → Gate
@@ -29,7 +30,7 @@ abbrev h : ℕ → Gate
 h q = gate1 10 q
 
 abbrev by : ℕ → ℤ → ℕ → Gate
-by c k q = record { code = c; first = q; second = zero; third = zero; turn = k }
+by c k q = record { code = c; first = q; second = zero; third = zero; turn = k; line = zero }
 
 abbrev rz : ℤ → ℕ → Gate
 rz k q = by codeRz k q
@@ -128,6 +129,19 @@ pub spending : map (λ (g : Gate). ts (g ∷ []))
     ≡ 1 ∷ 1 ∷ 1 ∷ 1 ∷ 1 ∷ 1 ∷ 0 ∷ 0 ∷ 0 ∷ 0 ∷ 0 ∷ 0 ∷ 0 ∷ 0 ∷ []
 unfolding ts
 spending = refl
+
+-- ---- lines
+
+abbrev on : Gate → ℕ → Gate
+on g n = withLine n g
+
+-- a replaced block has the line of its first gate, be it the largest; one that is kept, and gates outside any block, have their own
+pub lining :
+    (pass 128 512 (on (cnot 0 1) 9 ∷ on (t 0) 3 ∷ t 0 ∷ []) .gates ≡ on (s 0) 9 ∷ on (cnot 0 1) 9 ∷ [])
+    × (pass 1 512 (on (t 0) 9 ∷ on (t 0) 8 ∷ on (cnot 0 1) 7 ∷ []) .gates ≡ on (s 0) 9 ∷ on (cnot 0 1) 7 ∷ [])
+    × (pass 128 512 (on (cz 0 1) 4 ∷ on (cz 0 1) 5 ∷ on (h 0) 6 ∷ t 0 ∷ on (t 0) 7 ∷ []) .gates ≡ on (cz 0 1) 4 ∷ on (cz 0 1) 5 ∷ on (h 0) 6 ∷ s 0 ∷ [])
+unfolding pass xor
+lining = (refl, refl, refl)
 
 -- ---- turns
 

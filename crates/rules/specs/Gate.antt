@@ -5,13 +5,15 @@ use lib.IntN.{ℤ, pos}
 use lib.Dec.{eqb, leb}
 use Rattle.rules.specs.Limits.{lastFragment}
 
--- code, first, second, third, turn. A wire and a classical bit are numbers; a turn counts units of pi/4, either way round
+-- code, first, second, third, turn, line. A wire and a classical bit are numbers; a turn counts units of pi/4, either way round;
+-- the line is where the customer's text has the gate, and nothing but the output's lines depends on it
 pub record Gate : Type 0 where
   pub code : ℕ
   pub first : ℕ
   pub second : ℕ
   pub third : ℕ
   pub turn : ℤ
+  pub line : ℕ
 
 -- the fragment's codes, as document 01's table has them
 abbrev pub codeX : ℕ
@@ -69,9 +71,9 @@ third c = from 24 26 c
 abbrev pub turned : ℕ → Bool
 turned c = eqb c 7 || (from 14 16 c || from 20 23 c)
 
--- a gate on one wire, and on two; what they do not use is 0
+-- a gate on one wire, and on two; what they do not use is 0, and so is their line
 abbrev pub gate1 : ℕ → ℕ → Gate
-gate1 c q = record { code = c; first = q; second = zero; third = zero; turn = pos zero }
+gate1 c q = record { code = c; first = q; second = zero; third = zero; turn = pos zero; line = zero }
 
 abbrev pub gate2 : ℕ → ℕ → ℕ → Gate
-gate2 c p q = record { code = c; first = p; second = q; third = zero; turn = pos zero }
+gate2 c p q = record { code = c; first = p; second = q; third = zero; turn = pos zero; line = zero }

@@ -30,9 +30,10 @@ pub mod Fold
 pub mod Walk
 pub mod Close
 pub mod Synth
--- the list cut into blocks, each written again where that is cheaper; the promise; answer and rooms; the budget
+-- the list cut into blocks, each written again where that is cheaper; lines; the promise; answer and rooms; the budget
 pub mod Plan
 pub mod Scan
+pub mod Lines
 pub mod Promise
 pub mod Pass
 pub mod Budget

@@ -3,7 +3,7 @@ use Prim.Native.Nat.{ℕ, _+_, _*_, min, max}
 
 -- numbers to a gate
 abbrev pub width : ℕ
-width = 5
+width = 6
 
 -- the codes are 1 to 27, the fragment's 1 to 9
 abbrev pub lastCode : ℕ

@@ -1,5 +1,5 @@
--- A gate is five signed numbers: reading and writing a list.
-use mathlib.Core.Bool.{Bool, false}
+-- A gate is six signed numbers: reading and writing a list.
+use mathlib.Core.Bool.{Bool, true, false}
 use mathlib.Core.List.{List, [], _∷_, _++_}
 use Prim.Native.Nat.{ℕ, zero, suc, _+_, _*_, _/_, _%_}
 use lib.Dec.{eqb, ltb}
@@ -8,7 +8,7 @@ use lib.ListN.{length, getD}
 use Rattle.rules.specs.Limits.{width}
 use Rattle.rules.specs.Gate.{Gate}
 
--- ---- signed numbers, looked at in four ways only
+-- ---- signed numbers, looked at in five ways only
 
 -- the number itself, and 0 for a negative one
 abbrev pub natOf : ℤ → ℕ
@@ -31,13 +31,17 @@ abbrev pub odd : ℤ → Bool
 odd (pos n) = eqb (n % 2) 1
 odd (negsuc n) = eqb (suc n % 2) 1
 
+abbrev pub negative : ℤ → Bool
+negative (pos n) = false
+negative (negsuc n) = true
+
 -- ---- reading
 
 -- field k of the gate at place i
 abbrev pub field : List ℤ → ℕ → ℕ → ℤ
 field l i k = getD l (width * i + k) (pos 0)
 
--- code, first, second, third, turn
+-- code, first, second, third, turn, line
 unfoldable pub gateAt : List ℤ → ℕ → Gate
 gateAt l i = record {
   code = natOf (field l i 0);
@@ -45,6 +49,7 @@ gateAt l i = record {
   second = natOf (field l i 2);
   third = natOf (field l i 3);
   turn = field l i 4;
+  line = natOf (field l i 5);
 }
 
 -- n gates, from place i on
@@ -60,7 +65,7 @@ gatesOf l = gatesFrom l (length l / width) zero
 -- ---- writing
 
 abbrev pub numbers : Gate → List ℤ
-numbers g = pos (g .code) ∷ pos (g .first) ∷ pos (g .second) ∷ pos (g .third) ∷ g .turn ∷ []
+numbers g = pos (g .code) ∷ pos (g .first) ∷ pos (g .second) ∷ pos (g .third) ∷ g .turn ∷ pos (g .line) ∷ []
 
 unfoldable pub numbersOf : List Gate → List ℤ
 numbersOf [] = []

@@ -11,11 +11,12 @@ use Rattle.rules.specs.Counts.{twos, ts}
 use Rattle.rules.specs.Synth.{resynthesis}
 use Rattle.rules.specs.Plan.{Plan, planOf}
 use Rattle.rules.specs.Scan.{Writer, Result, passBy}
+use Rattle.rules.specs.Lines.{lined}
 
--- what a plan rewrites a block to: document 01's resynthesis, whatever the caps are
+-- what a plan rewrites a block to: document 01's resynthesis, whatever the caps are, with the line of the block's first gate
 unfoldable pub writerOf : Plan → Writer
-unfolding resynthesis
-writerOf p = resynthesis
+unfolding resynthesis lined
+writerOf p = lined resynthesis
 
 -- the pass at any two caps
 unfoldable pub pass : ℕ → ℕ → List Gate → Result

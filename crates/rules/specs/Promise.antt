@@ -9,6 +9,8 @@ use Rattle.rules.specs.Stretch.{Stretchwise, AlikeGates}
 use Rattle.rules.specs.Counts.{cheaper, Thrifty, NoMoreT}
 use Rattle.rules.specs.Plan.{Plan}
 use Rattle.rules.specs.Scan.{Writer, Piece, copied, block, piecesOf, textOf, Plain, Result}
+use Rattle.rules.specs.Lines as Lines
+use Rattle.rules.specs.Lines.{linesAfter, LinesFrom}
 
 -- each block holds at least one gate, and gates of the fragment only
 unfoldable pub Held : List Piece → Type 0
@@ -36,10 +38,13 @@ pub record Exactly (write : Writer) (p : Plan) (gs : List Gate) (r : Result) : T
   pub changes : Changes write (piecesOf p gs) (r .gates) (r .blocks) (r .replaced)
 
 -- demand 3: the opaque gates are the same and each stretch acts alike; each stretch is unchanged or strictly cheaper;
--- each block is replaced exactly when its new writing is cheaper. And T never rises, in no stretch and not over the list
+-- each block is replaced exactly when its new writing is cheaper. And T never rises, in no stretch and not over the list;
+-- the lines are, gate by gate, those that the rule says, and each is the line of some gate of the same stretch
 pub record Promised (write : Writer) (p : Plan) (gs : List Gate) (r : Result) : Type 0 where
   pub alike : Stretchwise AlikeGates (r .gates) gs
   pub thrifty : Stretchwise Thrifty (r .gates) gs
   pub exactly : Exactly write p gs r
   pub sparing : Stretchwise NoMoreT (r .gates) gs
   pub spent : NoMoreT (r .gates) gs
+  pub lines : Lines.lines (r .gates) ≡ linesAfter write (piecesOf p gs)
+  pub traced : Stretchwise LinesFrom (r .gates) gs

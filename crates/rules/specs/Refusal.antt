@@ -1,4 +1,4 @@
--- The refusals 1 to 9 and 14, exactly when each is given, and in their order.
+-- The refusals 1 to 9, 14 and 18, exactly when each is given, and in their order.
 use mathlib.Core.Bool.{Bool, not, _&&_, _||_, cond}
 use mathlib.Core.List.{List, [], _∷_}
 use Prim.Native.Nat.{ℕ, zero, suc, _/_, _%_}
@@ -7,7 +7,7 @@ use lib.IntN.{ℤ, pos}
 use lib.ListN.{length}
 use Rattle.rules.specs.Limits.{width, lastCode, maxGates, maxWires, maxBits, termWidth, stepWidth, termEntries, stepEntries}
 use Rattle.rules.specs.Gate.{from, second, bitted, third, turned}
-use Rattle.rules.specs.Numbers.{natOf, inside, same, field}
+use Rattle.rules.specs.Numbers.{natOf, inside, same, negative, field}
 
 -- a refusal returns number and place, and the field that is wrong: 1 first, 2 second, 3 third; 0 where it names none
 pub record Refusal : Type 0 where
@@ -44,7 +44,7 @@ refuse f place = refused (record { number = f .number; place = place; field = f 
 abbrev pub ruled : Fault → ℕ → Verdict → Verdict
 ruled f place rest = cond (eqb (f .number) 0) rest (refuse f place)
 
--- ---- one gate: code c, fields x, y, z and turn t, on w wires and b classical bits
+-- ---- one gate: code c, fields x, y, z, turn t and line s, on w wires and b classical bits
 
 abbrev pub nought : ℤ → Bool
 nought z = same z (pos 0)
@@ -57,10 +57,10 @@ unused c y z t = (second c || (bitted c || nought y)) && ((third c || nought z) 
 abbrev pub apart : ℕ → ℤ → ℤ → ℤ → Bool
 apart c x y z = not (second c && same x y) && not (third c && (same x z || same y z))
 
--- the tests of a gate of code c: 6, 7, then its fields from left to right, then 9. A wire that isn't one of 0 to w - 1 is 8,
--- a measure's bit that isn't one of 0 to b - 1 is 14; these two name their field
-abbrev pub gateTests : ℕ → ℕ → ℕ → ℤ → ℤ → ℤ → ℤ → List (Bool × Fault)
-gateTests c w b x y z t =
+-- the tests of a gate of code c: 6, 7, then its fields from left to right, then 9, and 18 last: a negative line. A wire that isn't
+-- one of 0 to w - 1 is 8, a measure's bit that isn't one of 0 to b - 1 is 14; these two name their field
+abbrev pub gateTests : ℕ → ℕ → ℕ → ℤ → ℤ → ℤ → ℤ → ℤ → List (Bool × Fault)
+gateTests c w b x y z t s =
     (not (from 1 lastCode c), tell 6 0)
     ∷ (not (unused c y z t), tell 7 0)
     ∷ (not (inside x w), tell 8 1)
@@ -68,15 +68,16 @@ gateTests c w b x y z t =
     ∷ (bitted c && not (inside y b), tell 14 2)
     ∷ (third c && not (inside z w), tell 8 3)
     ∷ (not (apart c x y z), tell 9 0)
+    ∷ (negative s, tell 18 0)
     ∷ []
 
 -- what is wrong with a gate. A code below 1 reads as 0
-unfoldable pub faultOf : ℕ → ℕ → ℤ → ℤ → ℤ → ℤ → ℤ → Fault
-faultOf w b code x y z t = firstOf (gateTests (natOf code) w b x y z t) none
+unfoldable pub faultOf : ℕ → ℕ → ℤ → ℤ → ℤ → ℤ → ℤ → ℤ → Fault
+faultOf w b code x y z t s = firstOf (gateTests (natOf code) w b x y z t s) none
 
 unfoldable pub faultAt : List ℤ → ℕ → ℕ → ℕ → Fault
 unfolding faultOf
-faultAt l w b i = faultOf w b (field l i 0) (field l i 1) (field l i 2) (field l i 3) (field l i 4)
+faultAt l w b i = faultOf w b (field l i 0) (field l i 1) (field l i 2) (field l i 3) (field l i 4) (field l i 5)
 
 -- ---- the list
 

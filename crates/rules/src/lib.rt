@@ -3,7 +3,7 @@ ghost use mathlib.Core.Path.{_≡_};
 ghost use Rattle.rules.specs.Limits as Limits;
 
 // Numbers to a gate.
-pub const GATE_WIDTH: usize = 5;
+pub const GATE_WIDTH: usize = 6;
 
 pub const MAX_GATES: usize = 8192;
 
