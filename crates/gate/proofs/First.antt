@@ -41,9 +41,9 @@ first-none (f ∷ fs) (n ∷ ns) p = rw (p zero (suc-le-suc zero-le)) (first-non
 -- ---- a gate's fault, by a part of it that each test gives
 
 pub part-at : (f : Fault → ℕ) (l : List ℤ) (w b i r : ℕ)
-    → r ≡ firstOf (parts f (gateTests (natOf (field l i 0)) w b (field l i 1) (field l i 2) (field l i 3) (field l i 4))) (f none) → r ≡ f (faultAt l w b i)
+    → r ≡ firstOf (parts f (gateTests (natOf (field l i 0)) w b (field l i 1) (field l i 2) (field l i 3) (field l i 4) (field l i 5))) (f none) → r ≡ f (faultAt l w b i)
 unfolding faultAt
-part-at f l w b i r e = e ∙ sym (fault-part f w b (field l i 0) (field l i 1) (field l i 2) (field l i 3) (field l i 4))
+part-at f l w b i r e = e ∙ sym (fault-part f w b (field l i 0) (field l i 1) (field l i 2) (field l i 3) (field l i 4) (field l i 5))
 
 -- ---- what a fault decides
 

@@ -4,3 +4,4 @@ mod Steps
 mod Faultless
 mod Tally
 pub mod Placing
+pub mod Lines

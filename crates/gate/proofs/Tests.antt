@@ -5,7 +5,7 @@ use mathlib.Core.List.{List}
 use Prim.Native.Nat.{ℕ, zero, suc, _-_, _*_, _%_, _^_, _<_}
 use native.Mathlib.Nat.{add-zero, mod-lt, zero-lt-suc}
 use native.Mathlib.Omega.{arith}
-use borrow.Author.Tests.{ltb-true, eqb-true, eqb-false, eq-eqb, ne-eqb}
+use borrow.Author.Tests.{ltb-true, eqb-true, eqb-false, eq-eqb, ne-eqb, le-ltb}
 use lib.Dec.{T, eqb, ltb}
 use lib.IntN.{ℤ, pos, negsuc, natAbs, negℤ}
 use lib.Signed.{ltZ, nonNeg, mag, remZ}
@@ -14,7 +14,7 @@ use mir.Syntax.{w32}
 use mir.Val.{toZ, ofZ, SFits}
 use mir.ValLaws.{toZ-ofZ}
 use Rattle.rules.specs.Limits.{width}
-use Rattle.rules.specs.Numbers.{natOf, inside, same, odd, field}
+use Rattle.rules.specs.Numbers.{natOf, inside, same, odd, negative, field}
 use Rattle.rules.proofs.Bits.{split}
 
 -- z is below 0
@@ -39,6 +39,10 @@ pub inside-yes : (z : ℤ) (n : ℕ) → ltZ z (pos 0) ≡ false → ltb (natAbs
 inside-yes (pos k) n h = refl
 inside-yes (negsuc k) n h = absurd (true≢false h)
 
+pub below-is : (z : ℤ) → ltZ z (pos 0) ≡ negative z
+below-is (pos n) = le-ltb n 0 (omega arith)
+below-is (negsuc n) = refl
+
 -- two tests that hold together are equal
 same-test : (a b c d : ℕ) → (a ≡ b → c ≡ d) → (c ≡ d → a ≡ b) → eqb a b ≡ eqb c d
 same-test a b c d f g =
@@ -54,6 +58,10 @@ same-bits (negsuc a) (negsuc b) f g = same-test (2 ^ 32 - suc a) (2 ^ 32 - suc b
 -- what the machine reads back from a number of a list
 pub back : (l : List ℤ) (j : ℕ) → mag (getD l j (pos 0)) < 2 ^ 31 → toZ w32 (ofZ w32 (getD l j (pos 0))) ≡ getD l j (pos 0)
 back l j h = toZ-ofZ w32 (getD l j (pos 0)) (record { sfits = h })
+
+-- what it stores for a number that fits
+pub stored : (n : ℕ) → n < 2 ^ 31 → toZ w32 n ≡ pos n
+stored n h = toZ-ofZ w32 (pos n) (record { sfits = h })
 
 -- what it reads from the bits of a number, each turned over
 pub inverted : (m : ℕ) → m < 2 ^ 31 → toZ w32 (4294967295 - m) ≡ negsuc m

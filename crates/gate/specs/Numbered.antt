@@ -16,8 +16,8 @@ abbrev pub flags : {A : Type 0} → List (Bool × A) → List Bool
 flags tests = map (λ test. test .0) tests
 
 -- the flags of a gate's tests
-unfoldable pub failing : ℕ → ℕ → ℤ → ℤ → ℤ → ℤ → ℤ → List Bool
-failing w b code x y z t = flags (gateTests (natOf code) w b x y z t)
+unfoldable pub failing : ℕ → ℕ → ℤ → ℤ → ℤ → ℤ → ℤ → ℤ → List Bool
+failing w b code x y z t s = flags (gateTests (natOf code) w b x y z t s)
 
 abbrev pub failingAt : List ℤ → ℕ → ℕ → ℕ → List Bool
-failingAt l w b i = failing w b (field l i 0) (field l i 1) (field l i 2) (field l i 3) (field l i 4)
+failingAt l w b i = failing w b (field l i 0) (field l i 1) (field l i 2) (field l i 3) (field l i 4) (field l i 5)

@@ -14,16 +14,17 @@ use rules::MAX_WIRES;
 use rules::STEP_WIDTH;
 use rules::TERM_WIDTH;
 ghost use mathlib.Core.Path.{_≡_};
-ghost use Prim.Native.Nat.{_+_, _*_, _≤_};
+ghost use Prim.Native.Nat.{_+_, _*_, _^_, _≤_, _<_};
 ghost use lib.ListN.{length};
 ghost use Rattle.rules.specs.Limits.{width};
 ghost use Rattle.rules.specs.Gate as Codes;
 ghost use Rattle.rules.specs.Numbers as Numbers;
 ghost use Rattle.rules.specs.Refusal as Refusals;
 ghost use Rattle.rules.specs.Counts.{twos, spends, ts};
+ghost use Rattle.rules.specs.Lines.{lineOf};
 ghost use Rattle.gate.specs.Verdicts.{verdictOf};
 ghost use Rattle.gate.specs.Reading.{Reads};
-ghost use Rattle.gate.specs.Writing.{placed, gateOf, Small};
+ghost use Rattle.gate.specs.Writing.{placed, stamped, gateOf, Small};
 ghost use Rattle.gate.specs.Plain as Plain;
 ghost use Rattle.gate.specs.Numbered.{numbered, failing, failingAt};
 
@@ -56,7 +57,7 @@ pub enum Verdict {
     Refused(Refusal),
 }
 
-// A gate in unsigned numbers, its turn from 0 to 7.
+// A gate in unsigned numbers, its turn from 0 to 7. It has no line: what is made of gates has none of its own.
 pub struct Gate {
     pub code: u32,
     pub first: u32,
@@ -92,6 +93,12 @@ pub fn odd(x: i32) -> bool
     ensures { λ r. ⌜ r ≡ Numbers.odd x ⌝ }
 {
     x % 2 != 0
+}
+
+pub fn negative(x: i32) -> bool
+    ensures { λ r. ⌜ r ≡ Numbers.negative x ⌝ }
+{
+    x < 0
 }
 
 // ---- which fields a code uses: tests without a branch
@@ -177,10 +184,10 @@ fn paired(c: u32, wires: usize, x: i32, y: i32, t: i32) -> bool
 }
 
 // Enough for no fault, and most gates of a list pass it.
-fn plain(c: u32, wires: usize, x: i32, y: i32, z: i32, t: i32) -> bool
-    ensures { λ r. ⌜ r ≡ Plain.plain c wires x y z t ⌝ }
+fn plain(c: u32, wires: usize, x: i32, y: i32, z: i32, t: i32, s: i32) -> bool
+    ensures { λ r. ⌜ r ≡ Plain.plain c wires x y z t s ⌝ }
 {
-    (single(c, y, t) | paired(c, wires, x, y, t)) & (inside(x, wires) & same(z, 0))
+    (single(c, y, t) | paired(c, wires, x, y, t)) & (inside(x, wires) & (same(z, 0) & !negative(s)))
 }
 
 fn plain_at(list: &[i32], wires: usize, i: usize) -> bool
@@ -195,13 +202,24 @@ fn plain_at(list: &[i32], wires: usize, i: usize) -> bool
         list[at + 2],
         list[at + 3],
         list[at + 4],
+        list[at + 5],
     )
 }
 
-// What is given for the first of a gate's tests that fails: 6, 7, the fields from left to right, 9.
-fn told(wires: usize, bits: usize, code: i32, x: i32, y: i32, z: i32, t: i32, gives: &[u8]) -> u8
-    requires { ⌜ 7 ≤ length (now gives) ⌝ }
-    ensures { λ r. ⌜ r ≡ Refusals.firstOf (numbered (failing wires bits code x y z t) (now (gives .entry))) 0 ⌝ }
+// What is given for the first of a gate's tests that fails: 6, 7, the fields from left to right, 9, 18.
+fn told(
+    wires: usize,
+    bits: usize,
+    code: i32,
+    x: i32,
+    y: i32,
+    z: i32,
+    t: i32,
+    s: i32,
+    gives: &[u8],
+) -> u8
+    requires { ⌜ 8 ≤ length (now gives) ⌝ }
+    ensures { λ r. ⌜ r ≡ Refusals.firstOf (numbered (failing wires bits code x y z t s) (now (gives .entry))) 0 ⌝ }
 {
     let c = nat(code);
     let fails = [
@@ -212,6 +230,7 @@ fn told(wires: usize, bits: usize, code: i32, x: i32, y: i32, z: i32, t: i32, gi
         bitted(c) & !inside(y, bits),
         third(c) & !inside(z, wires),
         !apart(c, x, y, z),
+        negative(s),
     ];
     first_of(&fails, gives)
 }
@@ -219,7 +238,7 @@ fn told(wires: usize, bits: usize, code: i32, x: i32, y: i32, z: i32, t: i32, gi
 // The same of the gate at a place.
 fn told_at(list: &[i32], wires: usize, bits: usize, i: usize, gives: &[u8]) -> u8
     requires { ⌜ width * i + width ≤ length (now list) ⌝ }
-    requires { ⌜ 7 ≤ length (now gives) ⌝ }
+    requires { ⌜ 8 ≤ length (now gives) ⌝ }
     ensures { λ r. ⌜ r ≡ Refusals.firstOf (numbered (failingAt (now (list .entry)) wires bits i) (now (gives .entry))) 0 ⌝ }
 {
     let at = GATE_WIDTH * i;
@@ -231,11 +250,12 @@ fn told_at(list: &[i32], wires: usize, bits: usize, i: usize, gives: &[u8]) -> u
         list[at + 2],
         list[at + 3],
         list[at + 4],
+        list[at + 5],
         gives,
     )
 }
 
-// The number of the gate's refusal, 6 to 9 or 14, or 0 for none. The tests are made only of a gate that is not plain.
+// The number of the gate's refusal, 6 to 9, 14 or 18, or 0 for none. The tests are made only of a gate that is not plain.
 pub fn fault_at(list: &[i32], wires: usize, bits: usize, i: usize) -> u8
     requires { ⌜ width * i + width ≤ length (now list) ⌝ }
     ensures { λ r. ⌜ r ≡ Refusals.faultAt (now (list .entry)) wires bits i .number ⌝ }
@@ -243,7 +263,7 @@ pub fn fault_at(list: &[i32], wires: usize, bits: usize, i: usize) -> u8
     if plain_at(list, wires, i) {
         return 0;
     }
-    let numbers = [6u8, 7, 8, 8, 14, 8, 9];
+    let numbers = [6u8, 7, 8, 8, 14, 8, 9, 18];
     told_at(list, wires, bits, i, &numbers)
 }
 
@@ -252,7 +272,7 @@ fn field_at(list: &[i32], wires: usize, bits: usize, i: usize) -> u8
     requires { ⌜ width * i + width ≤ length (now list) ⌝ }
     ensures { λ r. ⌜ r ≡ Refusals.faultAt (now (list .entry)) wires bits i .field ⌝ }
 {
-    let fields = [0u8, 0, 1, 2, 2, 3, 0];
+    let fields = [0u8, 0, 1, 2, 2, 3, 0, 0];
     told_at(list, wires, bits, i, &fields)
 }
 
@@ -340,6 +360,31 @@ pub fn write(out: &mut [i32], i: usize, g: Gate)
     out[at + 2] = g.second as i32;
     out[at + 3] = g.third as i32;
     out[at + 4] = g.turn as i32;
+    out[at + 5] = 0;
+}
+
+// ---- lines
+
+// The line of the list's first gate, and 0 where there is none.
+pub fn line(list: &[i32]) -> u32
+    ensures { λ r. ⌜ (r ≡ lineOf (Numbers.gatesOf (now (list .entry)))) × (r < 2 ^ 31) ⌝ }
+{
+    if list.len() < GATE_WIDTH {
+        return 0;
+    }
+    nat(list[5])
+}
+
+// The first n gates get that line.
+pub fn stamp(out: &mut [i32], n: usize, line: u32)
+    requires { ⌜ width * n ≤ length (now out) ⌝ }
+    requires { ⌜ line < 2 ^ 31 ⌝ }
+    ensures { λ r. ⌜ now (out .exit) ≡ stamped line n 0 (now (out .entry)) ⌝ }
+{
+    let l = line as i32;
+    for i in 0..n {
+        out[GATE_WIDTH * i + 5] = l;
+    }
 }
 
 // ---- counts: the sum moves by a test, so that the loops have no branch on data

@@ -17,7 +17,7 @@ returns c =
     let l = a .list .now in
     let i = a .i in
     part-at (λ f. f .number) l (a .wires) (a .bits) i 0
-    (sym (plain-faultless (natOf (field l i 0)) (a .wires) (a .bits) (field l i 1) (field l i 2) (field l i 3) (field l i 4) (sym (c .before .plain-at .ensures) ∙ c .if1 .taken)))
+    (sym (plain-faultless (natOf (field l i 0)) (a .wires) (a .bits) (field l i 1) (field l i 2) (field l i 3) (field l i 4) (field l i 5) (sym (c .before .plain-at .ensures) ∙ c .if1 .taken)))
 
 slice-aggregate-told-at : tie.Need-slice-aggregate-told-at
 slice-aggregate-told-at c = search needs

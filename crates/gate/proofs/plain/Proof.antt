@@ -18,11 +18,14 @@ inside-requires c κs = search needs
 same-requires : tie.Need-same-requires
 same-requires c κs = search needs
 
+negative-requires : tie.Need-negative-requires
+negative-requires c κs = search needs
+
 returns : tie.Need-returns
 unfolding plain
 returns c =
-    let s = c .before .before .before .before in
-    cc (toZ-ofZ w32 (s .args .x) (s .fits .x), toZ-ofZ w32 (s .args .y) (s .fits .y), toZ-ofZ w32 (s .args .z) (s .fits .z), toZ-ofZ w32 (s .args .t) (s .fits .t))
+    let s = c .before .before .before .before .before in
+    cc (toZ-ofZ w32 (s .args .x) (s .fits .x), toZ-ofZ w32 (s .args .y) (s .fits .y), toZ-ofZ w32 (s .args .z) (s .fits .z), toZ-ofZ w32 (s .args .t) (s .fits .t), toZ-ofZ w32 (s .args .s) (s .fits .s))
 
 pub plain-spec : {M : Type 1} → statement M
-plain-spec = tie.close (tie.spec single-requires paired-requires inside-requires same-requires returns)
+plain-spec = tie.close (tie.spec single-requires paired-requires inside-requires same-requires negative-requires returns)

@@ -57,20 +57,30 @@ mul-plain-4 c = search needs
 shared-slice-copy-out-plain-4 : tie.Need-shared-slice-copy-out-plain-4
 shared-slice-copy-out-plain-4 c = search needs
 
+add-plain-5 : tie.Need-add-plain-5
+add-plain-5 c = search needs
+
+mul-plain-5 : tie.Need-mul-plain-5
+mul-plain-5 c = search needs
+
+shared-slice-copy-out-plain-5 : tie.Need-shared-slice-copy-out-plain-5
+shared-slice-copy-out-plain-5 c = search needs
+
 plain-requires : tie.Need-plain-requires
 plain-requires c κs = search needs
 
 returns : tie.Need-returns
 returns c =
-    let a = c .before .before .before .before .before .before .before .args in
+    let a = c .before .before .before .before .before .before .before .before .args in
     let l = a .list .now in
     let j = width * a .i in
     plain-by (a .wires) (c .plain .result) (c .plain .ensures)
-    (c .before .before .before .before .before .nat .ensures ∙ ap natOf (back l j (c .before .before .before .before .before .before .nat-arg .given) ∙ code-at l (a .i)))
-    (back l (j + 1) (c .before .before .before .before .plain-arg .given))
-    (back l (j + 2) (c .before .before .before .plain-arg2 .given))
-    (back l (j + 3) (c .before .before .plain-arg3 .given))
-    (back l (j + 4) (c .before .plain-arg4 .given))
+    (c .before .before .before .before .before .before .nat .ensures ∙ ap natOf (back l j (c .before .before .before .before .before .before .before .nat-arg .given) ∙ code-at l (a .i)))
+    (back l (j + 1) (c .before .before .before .before .before .plain-arg .given))
+    (back l (j + 2) (c .before .before .before .before .plain-arg2 .given))
+    (back l (j + 3) (c .before .before .before .plain-arg3 .given))
+    (back l (j + 4) (c .before .before .plain-arg4 .given))
+    (back l (j + 5) (c .before .plain-arg5 .given))
 
 pub plain-at-spec : {M : Type 1} → statement M
 plain-at-spec =
@@ -92,5 +102,8 @@ plain-at-spec =
     add-plain-4
     mul-plain-4
     shared-slice-copy-out-plain-4
+    add-plain-5
+    mul-plain-5
+    shared-slice-copy-out-plain-5
     plain-requires
     returns)

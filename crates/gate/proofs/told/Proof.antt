@@ -45,6 +45,9 @@ inside-requires-4 c κs = search needs
 apart-requires : tie.Need-apart-requires
 apart-requires c κs = search needs
 
+negative-requires : tie.Need-negative-requires
+negative-requires c κs = search needs
+
 slice-aggregate-first-of : tie.Need-slice-aggregate-first-of
 slice-aggregate-first-of c = search needs
 
@@ -53,28 +56,30 @@ first-of-requires c κs = search needs
 
 returns : tie.Need-returns
 returns c =
-    let s = c .before .before .before .before .before .before .before .before .before .before .before .before .before .before in
+    let s = c .before .before .before .before .before .before .before .before .before .before .before .before .before .before .before in
     let a = s .args in
     let code = toZ-ofZ w32 (a .code) (s .fits .code) in
     let x = toZ-ofZ w32 (a .x) (s .fits .x) in
     let y = toZ-ofZ w32 (a .y) (s .fits .y) in
     let z = toZ-ofZ w32 (a .z) (s .fits .z) in
     let t = toZ-ofZ w32 (a .t) (s .fits .t) in
+    let l = toZ-ofZ w32 (a .s) (s .fits .s) in
     c .first-of .ensures
     ∙ ap (λ (fs : List Bool). firstOf (numbered fs (a .gives .now)) 0)
-    (flags-by (a .wires) (a .bits) (toZ w32 (ofZ w32 (a .code))) (toZ w32 (ofZ w32 (a .x))) (toZ w32 (ofZ w32 (a .y))) (toZ w32 (ofZ w32 (a .z))) (toZ w32 (ofZ w32 (a .t))) (c .before .before .before .before .before .before .before .before .before .before .before .before .nat .result)
-    (c .before .before .before .before .before .before .before .before .before .before .before .before .nat .ensures)
-    (c .before .before .before .before .before .before .before .before .before .before .before .from .ensures)
-    (c .before .before .before .before .before .before .before .before .before .before .unused .ensures)
-    (c .before .before .before .before .before .before .before .before .before .inside .ensures)
-    (c .before .before .before .before .before .before .before .before .second .ensures)
-    (c .before .before .before .before .before .before .before .inside2 .ensures)
-    (c .before .before .before .before .before .before .bitted .ensures)
-    (c .before .before .before .before .before .inside3 .ensures)
-    (c .before .before .before .before .third .ensures)
-    (c .before .before .before .inside4 .ensures)
-    (c .before .before .apart .ensures)
-    ∙ failing-by (a .wires) (a .bits) code x y z t)
+    (flags-by (a .wires) (a .bits) (toZ w32 (ofZ w32 (a .code))) (toZ w32 (ofZ w32 (a .x))) (toZ w32 (ofZ w32 (a .y))) (toZ w32 (ofZ w32 (a .z))) (toZ w32 (ofZ w32 (a .t))) (toZ w32 (ofZ w32 (a .s))) (c .before .before .before .before .before .before .before .before .before .before .before .before .before .nat .result)
+    (c .before .before .before .before .before .before .before .before .before .before .before .before .before .nat .ensures)
+    (c .before .before .before .before .before .before .before .before .before .before .before .before .from .ensures)
+    (c .before .before .before .before .before .before .before .before .before .before .before .unused .ensures)
+    (c .before .before .before .before .before .before .before .before .before .before .inside .ensures)
+    (c .before .before .before .before .before .before .before .before .before .second .ensures)
+    (c .before .before .before .before .before .before .before .before .inside2 .ensures)
+    (c .before .before .before .before .before .before .before .bitted .ensures)
+    (c .before .before .before .before .before .before .inside3 .ensures)
+    (c .before .before .before .before .before .third .ensures)
+    (c .before .before .before .before .inside4 .ensures)
+    (c .before .before .before .apart .ensures)
+    (c .before .before .negative .ensures)
+    ∙ failing-by (a .wires) (a .bits) code x y z t l)
 
 pub told-spec : {M : Type 1} → statement M
 told-spec =
@@ -91,6 +96,7 @@ told-spec =
     third-requires
     inside-requires-4
     apart-requires
+    negative-requires
     slice-aggregate-first-of
     first-of-requires
     returns)

@@ -57,21 +57,31 @@ mul-told-5 c = search needs
 shared-slice-copy-out-told-5 : tie.Need-shared-slice-copy-out-told-5
 shared-slice-copy-out-told-5 c = search needs
 
+add-told-5 : tie.Need-add-told-5
+add-told-5 c = search needs
+
+mul-told-6 : tie.Need-mul-told-6
+mul-told-6 c = search needs
+
+shared-slice-copy-out-told-6 : tie.Need-shared-slice-copy-out-told-6
+shared-slice-copy-out-told-6 c = search needs
+
 told-requires : tie.Need-told-requires
 told-requires c κs = search needs
 
 returns : tie.Need-returns
 returns c =
-    let a = c .before .before .before .before .before .before .before .args in
+    let a = c .before .before .before .before .before .before .before .before .args in
     let l = a .list .now in
     let j = width * a .i in
     subst (λ (fs : List Bool). c .told .result ≡ firstOf (numbered fs (a .gives .now)) 0)
     (failing-by (a .wires) (a .bits)
-    (back l j (c .before .before .before .before .before .told-arg .given) ∙ code-at l (a .i))
-    (back l (j + 1) (c .before .before .before .before .told-arg2 .given))
-    (back l (j + 2) (c .before .before .before .told-arg3 .given))
-    (back l (j + 3) (c .before .before .told-arg4 .given))
-    (back l (j + 4) (c .before .told-arg5 .given)))
+    (back l j (c .before .before .before .before .before .before .told-arg .given) ∙ code-at l (a .i))
+    (back l (j + 1) (c .before .before .before .before .before .told-arg2 .given))
+    (back l (j + 2) (c .before .before .before .before .told-arg3 .given))
+    (back l (j + 3) (c .before .before .before .told-arg4 .given))
+    (back l (j + 4) (c .before .before .told-arg5 .given))
+    (back l (j + 5) (c .before .told-arg6 .given)))
     (c .told .ensures)
 
 pub told-at-spec : {M : Type 1} → statement M
@@ -93,5 +103,8 @@ told-at-spec =
     add-told-4
     mul-told-5
     shared-slice-copy-out-told-5
+    add-told-5
+    mul-told-6
+    shared-slice-copy-out-told-6
     told-requires
     returns)

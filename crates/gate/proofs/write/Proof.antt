@@ -1,22 +1,17 @@
 -- `gate::write` meets its contract.
-use mathlib.Core.Path.{_≡_, refl}
+use mathlib.Core.Path.{refl}
 use mathlib.Core.List.{[], _∷_}
-use Prim.Native.Nat.{ℕ, _^_, _<_}
 use native.Mathlib.Omega.{arith}
 use borrow.Author.Needs.{needs}
 use lib.IntN.{pos}
 use lib.ListN.{length-set}
 use mir.Syntax.{w32}
 use mir.Val.{toZ}
-use mir.ValLaws.{toZ-ofZ}
 use Rattle.gate.specs.Writing.{gateOf}
+use Rattle.gate.proofs.Tests.{stored}
 use Rattle.gate.proofs.Placing.{row-set}
 use Rattle.gate.proofs.write.Statement.{statement}
 use Rattle.gate.proofs.write.Tie as tie
-
--- what the machine stores for a number that fits
-stored : (n : ℕ) → n < 2 ^ 31 → toZ w32 n ≡ pos n
-stored n h = toZ-ofZ w32 (pos n) (record { sfits = h })
 
 mul-at : tie.Need-mul-at
 mul-at c = search needs
@@ -78,6 +73,15 @@ mul-t6 c = search needs
 slice-set-from-out-5 : tie.Need-slice-set-from-out-5
 slice-set-from-out-5 c = simp length-set (omega arith)
 
+add-out-4 : tie.Need-add-out-4
+add-out-4 c = search needs
+
+mul-out-5 : tie.Need-mul-out-5
+mul-out-5 c = search needs
+
+slice-set-of-out : tie.Need-slice-set-of-out
+slice-set-of-out c = simp length-set (omega arith)
+
 same-length : tie.Need-same-length
 same-length c = search needs
 
@@ -86,7 +90,7 @@ returns c =
     let s = c .before .before .before .before .before .args in
     let g = s .g in
     let f = c .before .before .before .before .before .pre in
-    row-set (s .out .now) (s .i) (gateOf g) (toZ w32 (g .code)) (toZ w32 (g .first) ∷ toZ w32 (g .second) ∷ toZ w32 (g .third) ∷ toZ w32 (g .turn) ∷ []) (f .0)
+    row-set (s .out .now) (s .i) (gateOf g) (toZ w32 (g .code)) (toZ w32 (g .first) ∷ toZ w32 (g .second) ∷ toZ w32 (g .third) ∷ toZ w32 (g .turn) ∷ pos 0 ∷ []) (f .0)
     (rw (stored (g .code) (f .1 .code), stored (g .first) (f .1 .first), stored (g .second) (f .1 .second), stored (g .third) (f .1 .third), stored (g .turn) (omega arith)) refl)
 
 pub write-spec : {M : Type 1} → statement M
@@ -113,5 +117,8 @@ write-spec =
     add-t8
     mul-t6
     slice-set-from-out-5
+    add-out-4
+    mul-out-5
+    slice-set-of-out
     same-length
     returns)
