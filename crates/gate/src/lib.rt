@@ -369,10 +369,11 @@ pub fn write(out: &mut [i32], i: usize, g: Gate)
 pub fn line(list: &[i32]) -> u32
     ensures { λ r. ⌜ (r ≡ lineOf (Numbers.gatesOf (now (list .entry)))) × (r < 2 ^ 31) ⌝ }
 {
-    if list.len() < GATE_WIDTH {
+    let n = list.len();
+    if n < GATE_WIDTH {
         return 0;
     }
-    nat(list[5])
+    nat(list[GATE_WIDTH - 1])
 }
 
 // The first n gates get that line.

@@ -10,6 +10,12 @@ use Rattle.gate.proofs.line.Tie as tie
 returns : tie.Need-returns
 returns c = (line-none (c .before .args .list .now) (omega arith), omega arith)
 
+sub-nat : tie.Need-sub-nat
+sub-nat c = search needs
+
+mul-nat : tie.Need-mul-nat
+mul-nat c = search needs
+
 shared-slice-copy-out-nat : tie.Need-shared-slice-copy-out-nat
 shared-slice-copy-out-nat c = search needs
 
@@ -23,4 +29,4 @@ returns-2 c =
     (r .0 ∙ line-first l (omega arith), r .1)
 
 pub line-spec : {M : Type 1} → statement M
-line-spec = tie.close (tie.spec returns shared-slice-copy-out-nat nat-requires returns-2)
+line-spec = tie.close (tie.spec returns sub-nat mul-nat shared-slice-copy-out-nat nat-requires returns-2)
