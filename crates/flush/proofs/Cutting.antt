@@ -1,6 +1,8 @@
 -- The parts of the rooms that a block needs hold the same block; and what is known of a run's block.
 use mathlib.Core.Path.{_≡_, refl, sym, ap, ap₂, _∙_, subst}
+use mathlib.Core.Bool.{true, false≢true}
 use mathlib.Core.List.{List, [], _∷_, map}
+use mathlib.Core.Option.{Option, none, some}
 use Prim.Native.Nat.{ℕ, zero, suc, _+_, _*_, _/_, _^_, _≤_, _<_}
 use native.Mathlib.Nat.{le-refl}
 use native.Mathlib.Omega.{arith}
@@ -12,11 +14,9 @@ use Rattle.rules.specs.Gate.{Gate}
 use Rattle.rules.specs.Numbers.{gatesOf}
 use Rattle.rules.specs.Meaning.{op}
 use Rattle.rules.specs.Counts.{isTwo, twos}
-use Rattle.rules.specs.Fold.{Row, Term, empty}
+use Rattle.rules.specs.Fold.{Row, Term, Block, empty}
 use Rattle.rules.specs.Budget.{Budget, budgetOf}
-use Rattle.rules.specs.Synth.{blockOf}
-use Rattle.rules.specs.Plan.{Plan}
-use Rattle.rules.specs.Pass.{writerOf}
+use Rattle.rules.specs.Synth.{synth, blockOf, resynthesis}
 use Rattle.rules.proofs.Bits.{split, same}
 use Rattle.rules.proofs.Bounds.{RowsBelow, TermsBelow, InBounds, bounds-fold}
 use Rattle.rules.proofs.Reading.{gates-length}
@@ -90,10 +90,18 @@ module _ {run place : List ℤ} {b : State.Block} {names rows room nodes held ri
   )
 
   -- what it then has made
-  pub attempted : {after : List ℤ} (plan : Plan) (p : Pushed) → Synthesizes (blockAt b names rows room) place (ceilings run t) after (view (p .budget)) (p .within)
-      → Writes (writerOf plan) (gatesOf run) after p
-  unfolding writerOf
-  attempted {after} plan p h = writes (gatesOf run) place after p (rw (← f .same, ← ceilings-are run t e) h)
+  pub attempted : {after : List ℤ} (p : Pushed) → Synthesizes (blockAt b names rows room) place (ceilings run t) after (view (p .budget)) (p .within)
+      → Writes resynthesis (gatesOf run) after p
+  attempted {after} p h = writes (gatesOf run) place after p (rw (← f .same, ← ceilings-are run t e) h)
+
+-- what is made lies at the place
+pub made-fits : (bl : Block) (before after : List ℤ) (b : Budget) (p : Pushed) → Synthesizes bl before b after (view (p .budget)) (p .within)
+    → p .within ≡ true → width * p .budget .all ≤ length after
+made-fits bl before after b p h w = go (synth bl) refl
+  where
+    go : (o : Option (List Gate)) → synth bl ≡ o → width * p .budget .all ≤ length after
+    go none e = absurd (false≢true (sym (h .lost e) ∙ w))
+    go (some new) e = let r : Ready after (view (p .budget)) = h .emits new e .ready w in omega (arith, r .all, r .room)
 
 -- ---- the parts that are lent
 

@@ -17,9 +17,13 @@ use Rattle.rules.specs.Counts.{twos, cheaper}
 use Rattle.rules.specs.Budget.{Budget, budgetOf}
 use Rattle.rules.specs.Synth.{synth, blockOf, orElse, resynthesis}
 use Rattle.rules.specs.Scan.{Writer, chosen, replaces}
+use Rattle.rules.specs.Lines.{stamp, lineOf, lined}
 use Rattle.rules.proofs.Bits.{split, and-left, and-right}
 use Rattle.rules.proofs.Passing.{cheaper-is}
 use Rattle.rules.proofs.Reading.{length-numbers}
+use Rattle.rules.proofs.Stamping.{stamp-length, stamp-twos, stamp-cheaper}
+use Rattle.gate.specs.Writing.{stamped}
+use Rattle.gate.proofs.Lines.{stamped-gates}
 use Rattle.emit.specs.Emitted.{Holds, Passes, dear, long, Emits}
 use Rattle.budget.specs.declared.Pushed.{Pushed}
 use Rattle.budget.specs.View.{view}
@@ -114,6 +118,35 @@ writes gs before after p t = go (synth (blockOf gs)) refl
     go : (o : Option (List Gate)) → synth (blockOf gs) ≡ o → Writes resynthesis gs after p
     go none e = record { made = λ w. absurd (false≢true (sym (t .lost e) ∙ w)); stopped = λ _. rw e (self-not-cheaper gs) }
     go (some new) e = written resynthesis gs new before after p (ap (λ o. orElse o gs) e) (t .emits new e)
+
+-- ---- lines around a writer
+
+-- made: the gates get the line of the run's first, and nothing else of what is said of them changes
+pub lined-made : (write : Writer) (gs : List Gate) (place : List ℤ) (p : Pushed) → p .within ≡ true → Writes write gs place p
+    → Writes (lined write) gs (stamped (lineOf gs) (p .budget .all) 0 place) p
+unfolding lined
+lined-made write gs place p w t =
+    let m : Made (write gs) gs place (view (p .budget)) = t .made w in
+    let n : ℕ = lineOf gs in
+    let e : length (stamp n (write gs)) ≡ length (write gs) = stamp-length n (write gs) in
+    record {
+      made = λ _. record {
+        holds = record {
+          text = rw (e, m .holds .all) (stamped-gates n (write gs) place (m .holds .text));
+          two = m .holds .two ∙ sym (stamp-twos n (write gs));
+          all = m .holds .all ∙ sym e;
+        };
+        maxTwo = m .maxTwo;
+        maxAll = m .maxAll;
+      };
+      stopped = λ s. absurd (false≢true (sym s ∙ w));
+    }
+
+-- stopped: no line makes it cheaper
+pub lined-stopped : (write : Writer) (gs : List Gate) (place : List ℤ) (p : Pushed) → p .within ≡ false → Writes write gs place p → Writes (lined write) gs place p
+unfolding lined
+lined-stopped write gs place p s t =
+    record { made = λ w. absurd (false≢true (sym s ∙ w)); stopped = λ _. stamp-cheaper (lineOf gs) (write gs) gs ∙ t .stopped s }
 
 -- ---- a copy, number by number
 

@@ -1,11 +1,11 @@
 -- A part of a list's numbers that is whole gates, for callers: `exact-part` says that it is exact, `gates-part` which gates it has.
 use mathlib.Core.Path.{_≡_, refl, sym, ap, _∙_}
 use mathlib.Core.List.{List, [], _∷_, _++_}
-use Prim.Native.Nat.{ℕ, zero, suc, _*_}
+use Prim.Native.Nat.{ℕ, zero, suc, _+_, _*_}
 use native.Mathlib.Omega.{arith}
 use lib.IntN.{ℤ}
-use lib.ListN.{take, drop}
-use lib.Seq.{take-nil, drop-nil}
+use lib.ListN.{length, take, drop}
+use lib.Seq.{take-nil, drop-nil, take-append-add, drop-append-add}
 use Rattle.rules.specs.Limits.{width}
 use Rattle.rules.specs.Gate.{Gate}
 use Rattle.rules.specs.Numbers.{numbers, gatesOf, numbersOf}
@@ -17,16 +17,16 @@ unfolding numbersOf
 numbers-take zero gs = refl
 numbers-take (suc k) [] = take-nil (width * suc k)
 numbers-take (suc k) (g ∷ gs) =
-    let e : width * suc k ≡ suc (suc (suc (suc (suc (width * k))))) = omega arith in
-    rw e (ap (λ (l : List ℤ). numbers g ++ l) (numbers-take k gs))
+    let e : width * suc k ≡ length (numbers g) + width * k = omega arith in
+    ap (λ (n : ℕ). take n (numbers g ++ numbersOf gs)) e ∙ take-append-add (numbers g) (numbersOf gs) (width * k) ∙ ap (λ (l : List ℤ). numbers g ++ l) (numbers-take k gs)
 
 numbers-drop : (k : ℕ) (gs : List Gate) → drop (width * k) (numbersOf gs) ≡ numbersOf (drop k gs)
 unfolding numbersOf
 numbers-drop zero gs = refl
 numbers-drop (suc k) [] = drop-nil (width * suc k)
 numbers-drop (suc k) (g ∷ gs) =
-    let e : width * suc k ≡ suc (suc (suc (suc (suc (width * k))))) = omega arith in
-    rw e (numbers-drop k gs)
+    let e : width * suc k ≡ length (numbers g) + width * k = omega arith in
+    ap (λ (n : ℕ). drop n (numbers g ++ numbersOf gs)) e ∙ drop-append-add (numbers g) (numbersOf gs) (width * k) ∙ numbers-drop k gs
 
 -- k gates from place i on, of a list that is exact
 module _ (l : List ℤ) (x : Exact l) (i k : ℕ) where

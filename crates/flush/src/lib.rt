@@ -9,9 +9,13 @@ use rules::STEP_WIDTH;
 use rules::TERM_WIDTH;
 use walk::NODE_WIDTH;
 ghost use mathlib.Core.Path.{_≡_};
+ghost use mathlib.Core.Bool.{true};
+ghost use Prim.Native.Nat.{_*_, _≤_};
 ghost use lib.ListN.{length};
+ghost use Rattle.rules.specs.Limits.{width};
 ghost use Rattle.rules.specs.Numbers.{gatesOf};
 ghost use Rattle.rules.specs.Scan.{Writer};
+ghost use Rattle.rules.specs.Lines.{lined};
 ghost use Rattle.rules.specs.Pass.{writerOf};
 ghost use Rattle.budget.specs.View as Counted;
 ghost use Rattle.plan.specs.View.{view};
@@ -64,7 +68,18 @@ fn settle(run: &[i32], place: &mut [i32], p: Pushed) -> Flushed
     }
 }
 
-// The block written again at its place, within the run's own counts, by the plan's writer: the resynthesis, whatever the plan. No other function knows.
+// Gates that were written at the place get the line of the run's first gate, whatever the writer is.
+fn mark(run: &[i32], place: &mut [i32], p: Pushed)
+    requires { ⌜ (p .within ≡ true → width * p .budget .all ≤ length (now place)) ⌝ }
+    ensures { λ r. ⌜ ((write : Writer) → Writes write (gatesOf (now (run .entry))) (now (place .entry)) p → Writes (lined write) (gatesOf (now (run .entry))) (now (place .exit)) p) ⌝ }
+{
+    let spent = p.budget;
+    if p.within {
+        gate::stamp(place, spent.all, gate::line(run));
+    }
+}
+
+// The block written again at its place, within the run's own counts, by the plan's writer: the resynthesis, whatever the plan, with its line. No other function knows.
 fn attempt(
     run: &[i32],
     place: &mut [i32],
@@ -87,7 +102,7 @@ fn attempt(
         maxtwo: gate::count_two(run),
         maxall: run.len() / GATE_WIDTH,
     };
-    synth::synthesize(
+    let p = synth::synthesize(
         block,
         names,
         rows,
@@ -96,9 +111,11 @@ fn attempt(
         held,
         right,
         steps,
-        place,
+        &mut *place,
         b,
-    )
+    );
+    mark(run, place, p);
+    p
 }
 
 // A closed block: `run` is its gates, `place` its own place in the output, as long as the run. Its wires leave the join table. Of each work room only
