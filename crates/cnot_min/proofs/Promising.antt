@@ -12,11 +12,12 @@ use Rattle.rules.specs.Numbers.{gatesOf, numbersOf}
 use Rattle.rules.specs.Refusal as Refusals
 use Rattle.rules.specs.Plan.{planOf}
 use Rattle.rules.specs.Scan.{Result}
+use Rattle.rules.specs.Lines.{fiveOf}
 use Rattle.rules.specs.Promise.{Promised}
 use Rattle.rules.specs.Pass as Paper
 use Rattle.rules.specs.Pass.{writerOf}
 use Rattle.rules.proofs.Reading.{read-written, length-numbers}
-use Rattle.rules.proofs.Resynthesis.{promised, counts-spent}
+use Rattle.rules.proofs.Resynthesis.{promised, counts-spent, five}
 use Rattle.cnot_min.specs.Minimizing.{told, shown, Minimizes, Minimized}
 use Rattle.cnot_min.specs.declared.Answer.{Answer}
 
@@ -77,6 +78,9 @@ module _ (l : List ℤ) (w b q t : ℕ) (out : List ℤ) (terms steps : List ℕ
     exactly = λ c f. promised-of c f .exactly;
     sparing = λ c f. promised-of c f .sparing;
     spent = λ c f. subst (λ (x : Paper.Counts). x .tOut ≤ x .tIn) (sym (same c f)) (counts-spent q t (gatesOf l));
+    lines = λ c f. promised-of c f .lines;
+    traced = λ c f. promised-of c f .traced;
+    five = λ c f. ap fiveOf (whole c f) ∙ five q t (gatesOf l);
   }
     where
       same : (c : Paper.Counts) → told r ≡ Paper.done c → c ≡ Paper.counts (gatesOf l) (Paper.pass q t (gatesOf l))
@@ -101,4 +105,7 @@ module _ (l : List ℤ) (w b q t : ℕ) (out : List ℤ) (terms steps : List ℕ
     exactly = λ c g. absurd (false≢true (not-done r c (sym f ∙ g)));
     sparing = λ c g. absurd (false≢true (not-done r c (sym f ∙ g)));
     spent = λ c g. absurd (false≢true (not-done r c (sym f ∙ g)));
+    lines = λ c g. absurd (false≢true (not-done r c (sym f ∙ g)));
+    traced = λ c g. absurd (false≢true (not-done r c (sym f ∙ g)));
+    five = λ c g. absurd (false≢true (not-done r c (sym f ∙ g)));
   }

@@ -10,7 +10,10 @@ use Rattle.rules.specs.Refusal.{accepted}
 use Rattle.rules.specs.Stretch.{Stretchwise, AlikeGates}
 use Rattle.rules.specs.Counts.{Thrifty, NoMoreT}
 use Rattle.rules.specs.Plan.{Plan, planOf}
-use Rattle.rules.specs.Scan.{Writer, Result, passBy}
+use Rattle.rules.specs.Synth.{resynthesis}
+use Rattle.rules.specs.Scan.{Writer, piecesOf, Result, passBy}
+use Rattle.rules.specs.Lines as Lines
+use Rattle.rules.specs.Lines.{linesAfter, LinesFrom, unlined, fiveOf}
 use Rattle.rules.specs.Promise.{Exactly}
 use Rattle.rules.specs.Pass as Paper
 use Rattle.rules.specs.Pass.{writerOf}
@@ -46,7 +49,7 @@ told (Done c) = Paper.done (counted c)
 abbrev pub shown : Paper.Counts → List ℤ → Result
 shown c out = record { gates = gatesOf (take (width * c .gatesOut) out); blocks = c .blocks; replaced = c .replaced }
 
--- demands 1, 2 and 3, and that T never rises
+-- demands 1, 2 and 3, that T never rises, and the lines
 pub record Minimizes (l : List ℤ) (wires bits qcap tcap : ℕ) (out : List ℤ) (terms steps : List ℕ) (r : Answer) (out′ : List ℤ) (terms′ steps′ : List ℕ) : Type 0 where
   -- refused exactly when document 01's table says, with its number, place and field; else the eight counts of document 01's pass.
   -- Wrong: always refusing; a count that is invented
@@ -70,6 +73,15 @@ pub record Minimizes (l : List ℤ) (wires bits qcap tcap : ℕ) (out : List ℤ
   pub sparing : (c : Paper.Counts) → told r ≡ Paper.done c → Stretchwise NoMoreT (shown c out′ .gates) (gatesOf l)
   -- and so, of the counts that are told, T out is at most T in. Wrong: t and tdg alone counted, where rz(1) rz(0) becomes t; T in and out exchanged
   pub spent : (c : Paper.Counts) → told r ≡ Paper.done c → c .tOut ≤ c .tIn
+  -- the lines out are, gate by gate, those of document 02: a copied gate has its own, the gates of a replaced block have the line of its first gate.
+  -- Wrong: the line of the block's last gate; copied gates stamped too
+  pub lines : (c : Paper.Counts) → told r ≡ Paper.done c
+      → let p = planOf qcap tcap in Lines.lines (shown c out′ .gates) ≡ linesAfter (writerOf p) (piecesOf p (gatesOf l))
+  -- and each of them is the line of a gate in, in the same stretch. Wrong: 0 for the gates that are new
+  pub traced : (c : Paper.Counts) → told r ≡ Paper.done c → Stretchwise LinesFrom (shown c out′ .gates) (gatesOf l)
+  -- demand 2: over the first five fields the result is that of document 01's pass, of the list without lines. This is what is compared with the Rust.
+  -- Wrong: the line read as part of the cost
+  pub five : (c : Paper.Counts) → told r ≡ Paper.done c → fiveOf (shown c out′) ≡ passBy resynthesis (planOf qcap tcap) (unlined (gatesOf l))
 
 -- ---- an accepted list
 
