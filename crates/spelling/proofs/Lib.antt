@@ -1,3 +1,4 @@
 mod Cases
+pub mod Forms
 pub mod Spelling
 pub mod Verdicts

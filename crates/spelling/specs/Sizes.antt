@@ -1,5 +1,7 @@
 -- The sizes of the programs that take a text, each by name and once.
-use Prim.Native.Nat.{ℕ}
+use Prim.Native.Nat.{ℕ, _+_, _*_}
+use Rattle.rules.specs.Limits.{width}
+use Rattle.text.specs.Contracts.{numberSize}
 
 -- bytes of a text
 abbrev pub listBytes : ℕ
@@ -9,6 +11,6 @@ listBytes = 16384
 abbrev pub listGates : ℕ
 listGates = 512
 
--- bytes of the room for an answer; every answer fits (`Says` of `list`)
+-- bytes of the room for an answer: of the numbers of the most gates, and of all other lines. Every answer fits (`Says` of `list`)
 abbrev pub answerBytes : ℕ
-answerBytes = 32768
+answerBytes = numberSize * (width * listGates) + 256
