@@ -1,7 +1,7 @@
 -- One number more, one line more, and none left.
 use mathlib.Core.Path.{_≡_, refl, sym, ap, _∙_}
 use mathlib.Core.Bool.{cond}
-use mathlib.Core.List.{List, [], _++_}
+use mathlib.Core.List.{List, [], _∷_, _++_}
 use Prim.Native.Nat.{ℕ, zero, suc, _+_, _-_, _*_, _≤_, _<_}
 use native.Mathlib.Numerals.{add-one}
 use native.Mathlib.Omega.{arith}
@@ -12,7 +12,7 @@ use lib.Seq.{drop-cons, drop-drop}
 use Rattle.rules.specs.Limits.{width}
 use Rattle.text.specs.Bytes.{lf, blank}
 use Rattle.text.specs.Printing.{endedText, lineText}
-use Rattle.spelling.specs.Texts.{linesText, rowText, rowsText}
+use Rattle.spelling.specs.Texts.{linesText, rowText, Form, four, five, six, perGate, fifth, rowsText}
 
 pub lines-more : (ns : List ℕ) (i : ℕ) → i < length ns → linesText (drop i ns) ≡ lineText (getD ns i 0) ++ linesText (drop (i + 1) ns)
 unfolding linesText
@@ -33,16 +33,27 @@ pub row-none : (vs : List ℤ) (k : ℕ) → length vs ≤ k → rowText (drop k
 unfolding rowText
 row-none vs k h = rw (drop-of-length-le vs h)
 
-pub rows-more : (n : ℕ) (ns : List ℤ) (i : ℕ) → i < n
-    → rowsText (n - i) (drop (width * i) ns) ≡ rowText (take width (drop (width * i) ns)) ++ rowsText (n - (i + 1)) (drop (width * (i + 1)) ns)
+pub rows-more : (f : Form) (n : ℕ) (ns : List ℤ) (i : ℕ) → i < n
+    → rowsText f (n - i) (drop (width * i) ns) ≡ rowText (take (perGate f) (drop (width * i) ns)) ++ rowsText f (n - (i + 1)) (drop (width * (i + 1)) ns)
 unfolding rowsText
-rows-more n ns i h =
+rows-more f n ns i h =
     let s : n - i ≡ suc (n - (i + 1)) = omega arith in
     let j : width * i + width ≡ width * (i + 1) = omega arith in
     rw (s, drop-drop width (width * i) ns, j)
 
-pub rows-none : (n : ℕ) (ns : List ℤ) (i : ℕ) → n ≤ i → rowsText (n - i) (drop (width * i) ns) ≡ []
+pub rows-none : (f : Form) (n : ℕ) (ns : List ℤ) (i : ℕ) → n ≤ i → rowsText f (n - i) (drop (width * i) ns) ≡ []
 unfolding rowsText
-rows-none n ns i h =
+rows-none f n ns i h =
     let s : n - i ≡ 0 = omega arith in
     rw s
+
+-- the head's numbers, of which the first four or all are printed
+pub head-taken : (f : Form) (a b c d : ℕ) → take (4 + length (fifth f)) (a ∷ b ∷ c ∷ d ∷ perGate f ∷ []) ≡ a ∷ b ∷ c ∷ d ∷ fifth f
+head-taken four a b c d = refl
+head-taken five a b c d = refl
+head-taken six a b c d = refl
+
+pub fifth-few : (f : Form) → length (fifth f) ≤ 1
+fifth-few four = omega arith
+fifth-few five = omega arith
+fifth-few six = omega arith

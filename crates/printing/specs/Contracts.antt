@@ -10,12 +10,16 @@ use Rattle.text.specs.Contracts.{lineSize, namedSize, numberSize}
 abbrev pub sectionSize : ℕ → ℕ → ℕ
 sectionSize w n = namedSize w 1 + lineSize * n
 
+-- a head, of at most five numbers
+abbrev pub headSize : ℕ
+headSize = sectionSize 4 5
+
 -- the gates of so many numbers; a list of them; and a list with so many counts
 abbrev pub gatesSize : ℕ → ℕ
 gatesSize n = namedSize 5 1 + numberSize * n
 
 abbrev pub listSize : ℕ → ℕ
-listSize n = sectionSize 4 4 + gatesSize n
+listSize n = headSize + gatesSize n
 
 abbrev pub resultSize : ℕ → ℕ → ℕ
 resultSize n counts = listSize n + sectionSize 6 counts

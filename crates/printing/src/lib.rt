@@ -11,7 +11,7 @@ ghost use Rattle.text.specs.Bytes.{lf, blank};
 ghost use Rattle.text.specs.Contracts.{Prints, lineSize, namedSize, numberSize};
 ghost use Rattle.spelling.specs.Texts as Texts;
 ghost use Rattle.spelling.specs.Heads.{headOf};
-ghost use Rattle.printing.specs.Contracts.{sectionSize, gatesSize, listSize, resultSize, Section, Gates, Listable, Printable};
+ghost use Rattle.printing.specs.Contracts.{sectionSize, headSize, gatesSize, listSize, resultSize, Section, Gates, Listable, Printable};
 
 // Numbers, one to a line.
 fn write_lines(out: &mut [u8], at: usize, values: &[u32]) -> usize
@@ -61,32 +61,44 @@ fn write_row(out: &mut [u8], at: usize, row: &[i32]) -> usize
     next
 }
 
-// A line for each gate.
-fn write_rows(out: &mut [u8], at: usize, numbers: &[i32]) -> usize
+// A line for each gate, of the numbers that the form shows.
+fn write_rows(out: &mut [u8], at: usize, numbers: &[i32], form: u32) -> usize
     requires { ⌜ at + numberSize * length (now numbers) ≤ length (now out) ⌝ }
-    ensures { λ r. ⌜ Prints (numberSize * length (now (numbers .entry))) (Texts.rowsText (length (now (numbers .entry)) / width) (now (numbers .entry))) (now (out .entry)) at (now (out .exit)) r ⌝ }
+    ensures { λ r. ⌜ Prints (numberSize * length (now (numbers .entry))) (Texts.rowsText (Texts.formOf form) (length (now (numbers .entry)) / width) (now (numbers .entry))) (now (out .entry)) at (now (out .exit)) r ⌝ }
 {
     let n = numbers.len() / GATE_WIDTH;
+    let shown = spelling::per_gate(form);
     let mut next = at;
     let mut i = 0;
     while i < n {
         next = write_row(
             &mut *out,
             next,
-            &numbers[GATE_WIDTH * i..GATE_WIDTH * (i + 1)],
+            &numbers[GATE_WIDTH * i..GATE_WIDTH * i + shown],
         );
         i += 1;
     }
     next
 }
 
-fn write_gates(out: &mut [u8], at: usize, numbers: &[i32]) -> usize
+fn write_gates(out: &mut [u8], at: usize, numbers: &[i32], form: u32) -> usize
     requires { ⌜ Gates (now numbers) (now out) at ⌝ }
-    ensures { λ r. ⌜ Prints (gatesSize (length (now (numbers .entry)))) (Texts.gatesText (now (numbers .entry))) (now (out .entry)) at (now (out .exit)) r ⌝ }
+    ensures { λ r. ⌜ Prints (gatesSize (length (now (numbers .entry)))) (Texts.gatesText (Texts.formOf form) (now (numbers .entry))) (now (out .entry)) at (now (out .exit)) r ⌝ }
 {
     let count = [(numbers.len() / GATE_WIDTH) as u32];
     let next = text::write_named(&mut *out, at, b"gates", &count);
-    write_rows(out, next, numbers)
+    write_rows(out, next, numbers, form)
+}
+
+// The head as it was read: four numbers, or five of which the last is how many of a gate's numbers are shown.
+fn write_head(out: &mut [u8], at: usize, head: Head) -> usize
+    requires { ⌜ at + headSize ≤ length (now out) ⌝ }
+    ensures { λ r. ⌜ Prints headSize (Texts.headText (headOf head)) (now (out .entry)) at (now (out .exit)) r ⌝ }
+{
+    let shown = spelling::per_gate(head.form) as u32;
+    let n = spelling::head_numbers(head.form);
+    let values = [head.wires, head.bits, head.qubits, head.terms, shown];
+    write_section(out, at, b"head", &values[..n])
 }
 
 // The head, and the gates.
@@ -94,9 +106,8 @@ pub fn write_list(out: &mut [u8], at: usize, head: Head, numbers: &[i32]) -> usi
     requires { ⌜ Listable (now numbers) (now out) at ⌝ }
     ensures { λ r. ⌜ Prints (listSize (length (now (numbers .entry)))) (Texts.listText (headOf head) (now (numbers .entry))) (now (out .entry)) at (now (out .exit)) r ⌝ }
 {
-    let values = [head.wires, head.bits, head.qubits, head.terms];
-    let gates = write_section(&mut *out, at, b"head", &values);
-    write_gates(out, gates, numbers)
+    let gates = write_head(&mut *out, at, head);
+    write_gates(out, gates, numbers, head.form)
 }
 
 // A list, and its counts.

@@ -212,7 +212,7 @@ pub onward-goes : {A B : Type 0} (j : ℕ) (o : Found A) (next : A → List ℕ 
 onward-goes j none next v i left h = apart j v i left h
 onward-goes j (found a rest) next v i left h = (a, (rest, (refl, h)))
 
-such-read : (ok : ℕ → Bool) (o : Found ℕ) (n : ℕ) (rest : List ℕ) → such ok o ≡ found n rest → (o ≡ found n rest) × (ok n ≡ true)
+pub such-read : (ok : ℕ → Bool) (o : Found ℕ) (n : ℕ) (rest : List ℕ) → such ok o ≡ found n rest → (o ≡ found n rest) × (ok n ≡ true)
 such-read ok none n rest e = absent n rest e
 such-read ok (found m left) n rest e =
     split (ok m)
@@ -222,7 +222,7 @@ such-read ok (found m left) n rest e =
     (is, subst (λ (x : ℕ). ok x ≡ true) same t))
     (λ t. absent n rest (rw t at e))
 
-one-of : (a b n : ℕ) → (eqb n a || eqb n b) ≡ true → (n ≡ a) ⊎ (n ≡ b)
+pub one-of : (a b n : ℕ) → (eqb n a || eqb n b) ≡ true → (n ≡ a) ⊎ (n ≡ b)
 one-of a b n t = same n a (λ e q. inl e) (λ e q. same n b (λ g p. inr g) (λ g p. absurd (true≢false (sym (rw (q, p) at t)))))
 
 lines-cons : (n : ℕ) (ns rest : List ℕ) → linesText (n ∷ ns) ++ rest ≡ lineText n ++ (linesText ns ++ rest)

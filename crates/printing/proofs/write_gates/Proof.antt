@@ -9,8 +9,8 @@ use Rattle.spelling.specs.Texts.{gatesText}
 use Rattle.printing.proofs.write_gates.Statement.{statement}
 use Rattle.printing.proofs.write_gates.Tie as tie
 
-cast-t9 : tie.Need-cast-t9
-cast-t9 c = omega (arith, c .before .pre .few)
+cast-t10 : tie.Need-cast-t10
+cast-t10 c = omega (arith, c .before .pre .few)
 
 slice-aggregate-write-named : tie.Need-slice-aggregate-write-named
 slice-aggregate-write-named c = search needs
@@ -41,7 +41,7 @@ pub write-gates-spec : {M : Type 1} → statement M
 write-gates-spec =
     tie.close
     (tie.spec
-    cast-t9
+    cast-t10
     slice-aggregate-write-named
     slice-aggregate-write-named-2
     write-named-requires
