@@ -1,20 +1,23 @@
 -- The gates' lines: a number more, a line more, and the room that they go into.
-use mathlib.Core.Path.{_≡_, refl, sym, _∙_}
+use mathlib.Core.Path.{_≡_, refl, sym, ap, _∙_}
+use mathlib.Core.Logic.{_≢_}
 use mathlib.Core.Bool.{Bool, true, false}
-use mathlib.Core.List.{List, [], _∷_, _++_}
+use mathlib.Core.List.{List, [], _∷_, _++_, append-nil}
 use Prim.Native.Nat.{ℕ, zero, suc, _+_, _-_, _*_, _≤_, _<_}
 use native.Mathlib.Nat.{zero-add}
 use native.Mathlib.Omega.{arith}
-use lib.IntN.{ℤ}
+use lib.IntN.{ℤ, pos}
 use lib.ListN.{length, drop, set, length-append}
 use Rattle.rules.specs.Limits.{width}
 use Rattle.rules.specs.Pass.{over}
 use Rattle.text.specs.Bytes.{pasted}
 use Rattle.text.specs.Reading.{Found, none, found, onward, ended}
 use Rattle.text.proofs.Lines.{absent}
-use Rattle.text.proofs.Pasting.{pasted-front, pasted-both}
+use Rattle.text.proofs.Pasting.{pasted-front, pasted-one, pasted-both, length-pasted}
 use Rattle.spelling.specs.Lines.{bad, good}
-use Rattle.spelling.specs.Reading.{Row, row, Rows, rows}
+use Rattle.spelling.specs.Texts.{Form, four, five, six, perGate, unsaid}
+use Rattle.spelling.specs.Reading.{Row, row, gateRow, Rows, rows}
+use Rattle.spelling.proofs.Forms.{per-gate-le, all-said}
 use Rattle.spelling.proofs.Spelling.{ends}
 use Rattle.reading.specs.Contracts.{ReadsRow}
 
@@ -68,48 +71,113 @@ row-sized (suc k) bs = row-next k (ended (ends k) bs) (λ left. row k left) (λ 
 
 -- ---- a gate's line
 
-module _ (n i k : ℕ) (bs : List ℕ) (h : i < n) where
-  pub rows-more : (u : Unit) (left : List ℕ) → row width bs .behind ≡ found u left
-      → rows (n - i) k bs ≡ record { numbers = row width bs .numbers ++ rows (n - (i + 1)) (suc k) left .numbers; behind = rows (n - (i + 1)) (suc k) left .behind }
+module _ (f : Form) (bs : List ℕ) where
+  abbrev shown : Row
+  shown = row (perGate f) bs
+
+  pub gate-none : shown .behind ≡ none → gateRow f bs ≡ shown
+  unfolding gateRow
+  gate-none e = rw e
+
+  pub gate-found : (u : Unit) (left : List ℕ) → shown .behind ≡ found u left → gateRow f bs ≡ record { numbers = shown .numbers ++ unsaid f; behind = found u left }
+  unfolding gateRow
+  gate-found u left e = rw e
+
+  -- at most a gate's numbers, and exactly these of one that is right
+  pub gate-sized : Sized width (gateRow f bs)
+  gate-sized = go (shown .behind) refl
+    where
+      s : Sized (perGate f) shown
+      s = row-sized (perGate f) bs
+
+      go : (o : Found Unit) → shown .behind ≡ o → Sized width (gateRow f bs)
+      go none e = rw (gate-none e) (record { most = omega (arith, s .most, per-gate-le f); full = λ u left h. absent u left (sym e ∙ h) })
+      go (found w rest) e =
+          let all : length (shown .numbers ++ unsaid f) ≡ width = length-append (shown .numbers) (unsaid f) ∙ omega (arith, s .full w rest e, all-said f) in
+          rw (gate-found w rest e) (record { most = omega arith; full = λ u left h. all })
+
+-- the room after it: all of a gate's numbers are shown, or all but the last
+all-shown : (f : Form) → perGate f ≡ width → unsaid f ≡ []
+all-shown four h = absurd (omega arith)
+all-shown five h = absurd (omega arith)
+all-shown six h = refl
+
+five-shown : (f : Form) → perGate f ≢ width → unsaid f ≡ pos 0 ∷ []
+five-shown four h = refl
+five-shown five h = refl
+five-shown six h = absurd (h refl)
+
+module _ (text : List ℕ) (f : Form) (bs : List ℕ) (room : List ℤ) (to : ℕ) (room′ : List ℤ) (next : ℕ) where
+  pub gate-no : (ok : Bool) → ok ≡ false → ReadsRow text (row (perGate f) bs) room to room′ ok next → ReadsRow text (gateRow f bs) room to room′ false next
+  gate-no ok e r =
+      let stop : row (perGate f) bs .behind ≡ none = sym (r .exact) ∙ rw e in
+      rw (gate-none f bs stop) (record { exact = sym stop; within = r .within; numbers = r .numbers })
+
+  module _ (ok : Bool) (is : ok ≡ true) (r : ReadsRow text (row (perGate f) bs) room to room′ ok next) where
+    reached-end : row (perGate f) bs .behind ≡ found tt (drop next text)
+    reached-end = sym (r .exact) ∙ rw is
+
+    pub gate-six : perGate f ≡ width → ReadsRow text (gateRow f bs) room to room′ true next
+    gate-six h =
+        rw (gate-found f bs tt (drop next text) reached-end, all-shown f h, append-nil (row (perGate f) bs .numbers))
+        (record { exact = refl; within = r .within; numbers = r .numbers })
+
+    pub gate-five : perGate f ≢ width → to + width ≤ length room → ReadsRow text (gateRow f bs) room to (set room′ (to + perGate f) (pos 0)) true next
+    gate-five h fits =
+        let a : List ℤ = row (perGate f) bs .numbers in
+        let size : length a ≡ perGate f = row-sized (perGate f) bs .full tt (drop next text) reached-end in
+        let long : length room′ ≡ length room = ap length (r .numbers) ∙ length-pasted room to a (omega (arith, per-gate-le f)) in
+        let one : set room′ (to + perGate f) (pos 0) ≡ pasted room′ (to + perGate f) (pos 0 ∷ []) = pasted-one room′ (to + perGate f) (pos 0) (omega (arith, long, per-gate-le f, h)) in
+        let at : to + perGate f ≡ to + length a = omega arith in
+        let both : pasted room′ (to + perGate f) (pos 0 ∷ []) ≡ pasted room to (a ++ pos 0 ∷ []) =
+        ap (λ (x : ℕ). pasted room′ x (pos 0 ∷ [])) at ∙ ap (λ (x : List ℤ). pasted x (to + length a) (pos 0 ∷ [])) (r .numbers)
+        ∙ pasted-both room to a (pos 0 ∷ []) (omega (arith, per-gate-le f, h)) in
+        rw (gate-found f bs tt (drop next text) reached-end, five-shown f h) (record { exact = refl; within = r .within; numbers = one ∙ both })
+
+-- ---- the gates' lines
+
+module _ (f : Form) (n i k : ℕ) (bs : List ℕ) (h : i < n) where
+  pub rows-more : (u : Unit) (left : List ℕ) → gateRow f bs .behind ≡ found u left
+      → rows f (n - i) k bs ≡ record { numbers = gateRow f bs .numbers ++ rows f (n - (i + 1)) (suc k) left .numbers; behind = rows f (n - (i + 1)) (suc k) left .behind }
   unfolding rows
   rows-more u left e =
       let s : n - i ≡ suc (n - (i + 1)) = omega arith in
       rw (s, e)
 
-  pub rows-stop : row width bs .behind ≡ none → rows (n - i) k bs ≡ record { numbers = row width bs .numbers; behind = bad k }
+  pub rows-stop : gateRow f bs .behind ≡ none → rows f (n - i) k bs ≡ record { numbers = gateRow f bs .numbers; behind = bad k }
   unfolding rows
   rows-stop e =
       let s : n - i ≡ suc (n - (i + 1)) = omega arith in
       rw (s, e)
 
-pub rows-end : (n i k : ℕ) (bs : List ℕ) → n ≤ i → rows (n - i) k bs ≡ record { numbers = []; behind = good tt k bs }
+pub rows-end : (f : Form) (n i k : ℕ) (bs : List ℕ) → n ≤ i → rows f (n - i) k bs ≡ record { numbers = []; behind = good tt k bs }
 unfolding rows
-rows-end n i k bs h =
+rows-end f n i k bs h =
     let s : n - i ≡ 0 = omega arith in
     rw s
 
-pub rows-size : (n k : ℕ) (bs : List ℕ) → length (rows n k bs .numbers) ≤ width * n
+pub rows-size : (f : Form) (n k : ℕ) (bs : List ℕ) → length (rows f n k bs .numbers) ≤ width * n
 unfolding rows
-rows-size zero k bs = omega arith
-rows-size (suc n) k bs = go (row width bs .behind) (λ left. rows-size n (suc k) left)
+rows-size f zero k bs = omega arith
+rows-size f (suc n) k bs = go (gateRow f bs .behind) (λ left. rows-size f n (suc k) left)
   where
-    go : (o : Found Unit) → ((left : List ℕ) → length (rows n (suc k) left .numbers) ≤ width * n) → length ((onward {B = Rows} o (record { numbers = row width bs .numbers; behind = bad k }) (λ u left.
-        record { numbers = row width bs .numbers ++ rows n (suc k) left .numbers; behind = rows n (suc k) left .behind })) .numbers) ≤ width * suc n
-    go none m = omega (arith, row-sized width bs .most)
-    go (found u left) m = let others = m left in simp length-append (omega (arith, row-sized width bs .most))
+    go : (o : Found Unit) → ((left : List ℕ) → length (rows f n (suc k) left .numbers) ≤ width * n) → length ((onward {B = Rows} o (record { numbers = gateRow f bs .numbers; behind = bad k }) (λ u left.
+        record { numbers = gateRow f bs .numbers ++ rows f n (suc k) left .numbers; behind = rows f n (suc k) left .behind })) .numbers) ≤ width * suc n
+    go none m = omega (arith, gate-sized f bs .most)
+    go (found u left) m = let others = m left in simp length-append (omega (arith, gate-sized f bs .most))
 
 -- one more line in the room
-pub rows-once : (room room′ : List ℤ) (n i line : ℕ) (bs : List ℕ) (u : Unit) (left : List ℕ) → i < n → width * n ≤ length room
-    → row width bs .behind ≡ found u left → room′ ≡ pasted room (width * i) (row width bs .numbers)
-    → (rows (n - (i + 1)) (line + (i + 1)) left .behind ≡ rows (n - i) (line + i) bs .behind)
-    × (pasted room′ (width * (i + 1)) (rows (n - (i + 1)) (line + (i + 1)) left .numbers) ≡ pasted room (width * i) (rows (n - i) (line + i) bs .numbers))
-rows-once room room′ n i line bs u left h fits e is =
-    let m = rows-more n i (line + i) bs h u left e in
+pub rows-once : (f : Form) (room room′ : List ℤ) (n i line : ℕ) (bs : List ℕ) (u : Unit) (left : List ℕ) → i < n → width * n ≤ length room
+    → gateRow f bs .behind ≡ found u left → room′ ≡ pasted room (width * i) (gateRow f bs .numbers)
+    → (rows f (n - (i + 1)) (line + (i + 1)) left .behind ≡ rows f (n - i) (line + i) bs .behind)
+    × (pasted room′ (width * (i + 1)) (rows f (n - (i + 1)) (line + (i + 1)) left .numbers) ≡ pasted room (width * i) (rows f (n - i) (line + i) bs .numbers))
+rows-once f room room′ n i line bs u left h fits e is =
+    let m = rows-more f n i (line + i) bs h u left e in
     let k : suc (line + i) ≡ line + (i + 1) = omega arith in
-    let full = row-sized width bs .full u left e in
-    let j : width * (i + 1) ≡ width * i + length (row width bs .numbers) = omega arith in
-    let few = rows-size (n - (i + 1)) (line + (i + 1)) left in
-    rw (m, k, is, j) (refl, pasted-both room (width * i) (row width bs .numbers) (rows (n - (i + 1)) (line + (i + 1)) left .numbers) (omega arith))
+    let full = gate-sized f bs .full u left e in
+    let j : width * (i + 1) ≡ width * i + length (gateRow f bs .numbers) = omega arith in
+    let few = rows-size f (n - (i + 1)) (line + (i + 1)) left in
+    rw (m, k, is, j) (refl, pasted-both room (width * i) (gateRow f bs .numbers) (rows f (n - (i + 1)) (line + (i + 1)) left .numbers) (omega arith))
 
 -- what stands from place 0 on stands first
 pub pasted-first : (room new : List ℤ) → pasted room 0 new ≡ over new room

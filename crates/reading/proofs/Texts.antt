@@ -14,8 +14,8 @@ use Rattle.rules.specs.Limits.{width}
 use Rattle.rules.specs.Pass.{over}
 use Rattle.text.specs.Reading.{Found, none, found, onward, countLine}
 use Rattle.spelling.specs.Lines.{Lines, bad, good}
-use Rattle.spelling.specs.Texts.{Head, gatesWord}
-use Rattle.spelling.specs.Reading.{row, Rows, rows, list, headAt, gathered, listAt, ending, readText}
+use Rattle.spelling.specs.Texts.{Form, formOf, Head, gatesWord}
+use Rattle.spelling.specs.Reading.{gateRow, Rows, rows, list, headAt, gathered, listAt, ending, readText}
 use Rattle.spelling.specs.Heads.{headOf}
 use Rattle.spelling.specs.declared.Head as Code
 use Rattle.spelling.proofs.Spelling.{apart}
@@ -23,7 +23,7 @@ use Rattle.reading.specs.Contracts.{ReadsLines, ReadsRows, ReadsList, Re
 use Rattle.reading.specs.declared.Front.{Front}
 use Rattle.reading.specs.declared.Front.the-variants.{Wrong, Large, Whole}
 use Rattle.reading.specs.declared.Read.the-variants.{Malformed, Many, Good}
-use Rattle.reading.proofs.Gates.{row-sized}
+use Rattle.reading.proofs.Gates.{gate-sized}
 
 -- ---- what a caller learns of some lines
 
@@ -35,17 +35,17 @@ module _ {A : Type 0} (text : List ℕ) (meant : Lines A) (ok : Bool) (v : A) (l
   lines-no e = sym (r .exact) ∙ rw e
 
 -- lines that are all right have all their numbers
-rows-full : (n k : ℕ) (bs : List ℕ) (u : Unit) (i : ℕ) (left : List ℕ) → rows n k bs .behind ≡ good u i left → length (rows n k bs .numbers) ≡ width * n
+rows-full : (f : Form) (n k : ℕ) (bs : List ℕ) (u : Unit) (i : ℕ) (left : List ℕ) → rows f n k bs .behind ≡ good u i left → length (rows f n k bs .numbers) ≡ width * n
 unfolding rows
-rows-full zero k bs u i left h = refl
-rows-full (suc n) k bs u i left h = go (row width bs .behind) (row-sized width bs .full) (λ rest. rows-full n (suc k) rest u i left) h
+rows-full f zero k bs u i left h = refl
+rows-full f (suc n) k bs u i left h = go (gateRow f bs .behind) (gate-sized f bs .full) (λ rest. rows-full f n (suc k) rest u i left) h
   where
-    go : (o : Found Unit) → ((w : Unit) (rest : List ℕ) → o ≡ found w rest → length (row width bs .numbers) ≡ width)
-        → ((rest : List ℕ) → rows n (suc k) rest .behind ≡ good u i left → length (rows n (suc k) rest .numbers) ≡ width * n)
-        → (let r = onward {B = Rows} o (record { numbers = row width bs .numbers; behind = bad k }) (λ w rest. record { numbers = row width bs .numbers ++ rows n (suc k) rest .numbers; behind = rows n (suc k) rest .behind }) in
+    go : (o : Found Unit) → ((w : Unit) (rest : List ℕ) → o ≡ found w rest → length (gateRow f bs .numbers) ≡ width)
+        → ((rest : List ℕ) → rows f n (suc k) rest .behind ≡ good u i left → length (rows f n (suc k) rest .numbers) ≡ width * n)
+        → (let r = onward {B = Rows} o (record { numbers = gateRow f bs .numbers; behind = bad k }) (λ w rest. record { numbers = gateRow f bs .numbers ++ rows f n (suc k) rest .numbers; behind = rows f n (suc k) rest .behind }) in
         r .behind ≡ good u i left → length (r .numbers) ≡ width * suc n)
-    go none f g h = apart k u i left h
-    go (found w rest) f g h = simp length-append (omega (arith, f w rest refl, g rest h))
+    go none m g h = apart k u i left h
+    go (found w rest) m g h = simp length-append (omega (arith, m w rest refl, g rest h))
 
 -- ---- a list: the five ways
 
@@ -63,23 +63,23 @@ module _ (text : List ℕ) (at line most : ℕ) (room : List ℤ) where
     unfolding listAt met
     too-many g = record { answer = rw (e, f, lt-ltb most n g); ends = tt; numbers = rw (e, f, lt-ltb most n g) }
 
-    module _ (g : n ≤ most) (room′ : List ℤ) (ok : Bool) (last next : ℕ) (r : ReadsRows text (rows n (k + 1) rest) room room′ ok last next) where
-      met-is : met most line (drop at text) ≡ rows n (suc k) rest .numbers
+    module _ (g : n ≤ most) (room′ : List ℤ) (ok : Bool) (last next : ℕ) (r : ReadsRows text (rows (formOf (h .form)) n (k + 1) rest) room room′ ok last next) where
+      met-is : met most line (drop at text) ≡ rows (formOf (h .form)) n (suc k) rest .numbers
       unfolding met
       met-is = rw (e, f, le-ltb most n g)
 
       stands : room′ ≡ over (met most line (drop at text)) room
       stands = r .numbers ∙ rw (met-is, add-one k)
 
-      comes-to : listAt most line (drop at text) ≡ gathered (headOf h) (rows n (suc k) rest .numbers) (rows n (suc k) rest .behind)
+      comes-to : listAt most line (drop at text) ≡ gathered (headOf h) (rows (formOf (h .form)) n (suc k) rest .numbers) (rows (formOf (h .form)) n (suc k) rest .behind)
       unfolding listAt
       comes-to = rw (e, f, le-ltb most n g)
 
       pub all-read : ok ≡ true → ReadsList text at line most room room′ (Whole h n last next)
       all-read t =
-          let done : rows n (suc k) rest .behind ≡ good tt last (drop next text) = rw (add-one k) at (lines-ok text (rows n (k + 1) rest .behind) ok tt last next (r .lines) t) in
-          let numbers = rows n (suc k) rest .numbers in
-          let full : length numbers ≡ width * n = rows-full n (suc k) rest tt last (drop next text) done in
+          let done : rows (formOf (h .form)) n (suc k) rest .behind ≡ good tt last (drop next text) = rw (add-one k) at (lines-ok text (rows (formOf (h .form)) n (k + 1) rest .behind) ok tt last next (r .lines) t) in
+          let numbers = rows (formOf (h .form)) n (suc k) rest .numbers in
+          let full : length numbers ≡ width * n = rows-full (formOf (h .form)) n (suc k) rest tt last (drop next text) done in
           let first : take (width * n) room′ ≡ numbers = rw (r .numbers, add-one k) (take-at numbers (drop (length numbers) room) (width * n) full) in
           record {
             answer = ap (λ (ns : List ℤ). list (headOf h) ns last (drop next text)) first ∙ sym (comes-to ∙ rw done);
@@ -89,7 +89,7 @@ module _ (text : List ℕ) (at line most : ℕ) (room : List ℤ) where
 
       pub not-all : ok ≡ false → ReadsList text at line most room room′ (Wrong last)
       not-all t =
-          let stop : rows n (suc k) rest .behind ≡ bad last = rw (add-one k) at (lines-no text (rows n (k + 1) rest .behind) ok tt last next (r .lines) t) in
+          let stop : rows (formOf (h .form)) n (suc k) rest .behind ≡ bad last = rw (add-one k) at (lines-no text (rows (formOf (h .form)) n (k + 1) rest .behind) ok tt last next (r .lines) t) in
           record { answer = sym (comes-to ∙ rw stop); ends = tt; numbers = stands }
 
 -- ---- the whole text, by what its list comes to

@@ -2,7 +2,7 @@
 use mathlib.Core.Path.{_≡_}
 use mathlib.Core.Bool.{Bool, cond}
 use mathlib.Core.List.{List, []}
-use Prim.Native.Nat.{ℕ, suc, _*_, _^_, _≤_, _<_}
+use Prim.Native.Nat.{ℕ, suc, _+_, _*_, _^_, _≤_, _<_}
 use lib.Dec.{ltb}
 use lib.IntN.{ℤ}
 use lib.ListN.{length, take, drop}
@@ -13,7 +13,7 @@ use Rattle.text.specs.Reading.{Found, none, found, countLine}
 use Rattle.text.specs.Contracts.{reached}
 use Rattle.spelling.specs.Lines.{Lines, bad, good}
 use Rattle.spelling.specs.Texts as Texts
-use Rattle.spelling.specs.Texts.{gatesWord}
+use Rattle.spelling.specs.Texts.{Form, gatesWord}
 use Rattle.spelling.specs.Reading as Spec
 use Rattle.spelling.specs.Heads.{headOf}
 use Rattle.reading.specs.declared.Front.{Front}
@@ -27,9 +27,9 @@ pub record ReadsLines {A : Type 0} (text : List ℕ) (meant : Lines A) (ok : Boo
   pub exact : cond ok (good value line (drop next text)) (bad line) ≡ meant
   pub within : next ≤ length text
 
--- how many lines of the head are right before the first that isn't
-abbrev pub right : Bool → Bool → Bool → Bool → Bool → ℕ
-right first wires bits qubits terms = cond first (cond wires (cond bits (cond qubits (cond terms 5 4) 3) 2) 1) 0
+-- how many lines of the head are right before the first that isn't; all of a head of n numbers, where they are
+abbrev pub right : Bool → Bool → Bool → Bool → Bool → Bool → ℕ → ℕ
+right first wires bits qubits terms form n = cond first (cond wires (cond bits (cond qubits (cond terms (cond form (n + 1) 5) 4) 3) 2) 1) 0
 
 -- a line of numbers: they stand in the room from a place on, up to the first that is not right
 pub record ReadsRow (text : List ℕ) (meant : Spec.Row) (room : List ℤ) (at : ℕ) (room′ : List ℤ) (ok : Bool) (next : ℕ) : Type 0 where
@@ -51,13 +51,13 @@ pub record Legible (text : List ℕ) (at line most : ℕ) (room : List ℤ) : Ty
   pub holds : width * most ≤ length room
 
 -- the numbers read on the way: all of the gates', or those before the first that is not right
-abbrev pub metCount : ℕ → ℕ → Found ℕ → List ℤ
-metCount most k none = []
-metCount most k (found n left) = let gates = Spec.rows n (suc k) left in cond (ltb most n) [] (gates .numbers)
+abbrev pub metCount : ℕ → Form → ℕ → Found ℕ → List ℤ
+metCount most f k none = []
+metCount most f k (found n left) = let gates = Spec.rows f n (suc k) left in cond (ltb most n) [] (gates .numbers)
 
 abbrev pub metLines : ℕ → Lines Texts.Head → List ℤ
 metLines most (bad k) = []
-metLines most (good h k left) = metCount most k (countLine gatesWord left)
+metLines most (good h k left) = metCount most (h .form) k (countLine gatesWord left)
 
 unfoldable pub met : ℕ → ℕ → List ℕ → List ℤ
 met most k bs = metLines most (Spec.headAt k bs)

@@ -1,6 +1,7 @@
 // The text of a list, read line by line.
 use rules::GATE_WIDTH;
 use spelling::Head;
+use text::Natural;
 use text::Place;
 ghost use mathlib.Core.Path.{_≡_};
 ghost use mathlib.Core.Bool.{cond};
@@ -9,6 +10,8 @@ ghost use lib.Dec.{eqb};
 ghost use lib.ListN.{length, drop};
 ghost use Rattle.rules.specs.Limits.{width};
 ghost use Rattle.text.specs.Bytes.{lf, blank};
+ghost use Rattle.text.specs.Contracts.{Reads};
+ghost use Rattle.spelling.specs.Texts.{formOf};
 ghost use Rattle.spelling.specs.Reading as Spec;
 ghost use Rattle.spelling.specs.Heads.{headOf};
 ghost use Rattle.reading.specs.Contracts as Contracts;
@@ -44,9 +47,17 @@ pub enum Read {
     Good(Head, usize),
 }
 
-// How many lines of the head are right before the first that isn't.
-fn right(first: bool, wires: bool, bits: bool, qubits: bool, terms: bool) -> usize
-    ensures { λ r. ⌜ r ≡ Contracts.right first wires bits qubits terms ⌝ }
+// How many lines of the head are right before the first that isn't; all of a head of n numbers, where they are.
+fn right(
+    first: bool,
+    wires: bool,
+    bits: bool,
+    qubits: bool,
+    terms: bool,
+    form: bool,
+    n: u32,
+) -> usize
+    ensures { λ r. ⌜ r ≡ Contracts.right first wires bits qubits terms form n ⌝ }
 {
     if !first {
         0
@@ -58,52 +69,100 @@ fn right(first: bool, wires: bool, bits: bool, qubits: bool, terms: bool) -> usi
         3
     } else if !terms {
         4
-    } else {
+    } else if !form {
         5
+    } else {
+        n as usize + 1
+    }
+}
+
+// `head 4` or `head 5`: how many numbers it has.
+fn read_first(text: &[u8], at: usize) -> Natural
+    requires { ⌜ at ≤ length (now text) ⌝ }
+    ensures { λ r. ⌜ Reads (now (text .entry)) (Spec.headLine (drop at (now (text .entry)))) (r .ok) (r .value) (r .next) ⌝ }
+{
+    let n = text::read_count(text, at, b"head");
+    let value = n.value;
+    Natural {
+        ok: n.ok & ((value == 4) | (value == 5)),
+        value,
+        next: n.next,
+    }
+}
+
+// The form of a head of n numbers: that of `head 4` has no line; that of `head 5` is its fifth number.
+fn read_form(text: &[u8], at: usize, n: u32) -> Natural
+    requires { ⌜ at ≤ length (now text) ⌝ }
+    ensures { λ r. ⌜ Reads (now (text .entry)) (Spec.formLine n (drop at (now (text .entry)))) (r .ok) (r .value) (r .next) ⌝ }
+{
+    if n == 4 {
+        return Natural {
+            ok: true,
+            value: n,
+            next: at,
+        };
+    }
+    let v = text::read_line(text, at);
+    let value = v.value;
+    Natural {
+        ok: v.ok & ((value == 5) | (value == 6)),
+        value,
+        next: v.next,
     }
 }
 
 // Where a line isn't right, those behind it are looked at all the same, and don't count.
 fn read_head(text: &[u8], at: usize, line: usize) -> Heading
     requires { ⌜ (at ≤ length (now text)) × (line < 2 ^ 32) ⌝ }
-    ensures { λ r. ⌜ ReadsLines (now (text .entry)) (Spec.headAt line (drop at (now (text .entry)))) (r .ok) (headOf (r .head)) (r .line) (r .next) × (r .line < 2 ^ 33) ⌝ }
+    ensures { λ r. ⌜ ReadsLines (now (text .entry)) (Spec.headAt line (drop at (now (text .entry)))) (r .ok) (headOf (r .head)) (r .line) (r .next) × (r .line < 2 ^ 34) ⌝ }
 {
-    let first = text::read_word(text, at, b"head 4\n");
+    let first = read_first(text, at);
     let wires = text::read_line(text, first.next);
     let bits = text::read_line(text, wires.next);
     let qubits = text::read_line(text, bits.next);
     let terms = text::read_line(text, qubits.next);
+    let form = read_form(text, terms.next, first.value);
     Heading {
-        ok: first.ok & (wires.ok & (bits.ok & (qubits.ok & terms.ok))),
+        ok: first.ok & (wires.ok & (bits.ok & (qubits.ok & (terms.ok & form.ok)))),
         head: Head {
             wires: wires.value,
             bits: bits.value,
             qubits: qubits.value,
             terms: terms.value,
+            form: form.value,
         },
-        line: line + right(first.ok, wires.ok, bits.ok, qubits.ok, terms.ok),
-        next: terms.next,
+        line: line
+            + right(
+                first.ok,
+                wires.ok,
+                bits.ok,
+                qubits.ok,
+                terms.ok,
+                form.ok,
+                first.value,
+            ),
+        next: form.next,
     }
 }
 
-// What ends number k of a line.
-fn end_of(k: usize) -> u8
-    requires { ⌜ k < width ⌝ }
-    ensures { λ r. ⌜ r ≡ cond (eqb (width - (k + 1)) 0) lf blank ⌝ }
+// What ends number k of a line of n.
+fn end_of(k: usize, n: usize) -> u8
+    requires { ⌜ k < n ⌝ }
+    ensures { λ r. ⌜ r ≡ cond (eqb (n - (k + 1)) 0) lf blank ⌝ }
 {
-    if k + 1 < GATE_WIDTH { b' ' } else { b'\n' }
+    if k + 1 < n { b' ' } else { b'\n' }
 }
 
-// A gate's line: its numbers go into the room from a place on.
-fn read_row(text: &[u8], at: usize, numbers: &mut [i32], to: usize) -> Place
+// A line of n numbers: they go into the room from a place on.
+fn read_row(text: &[u8], at: usize, numbers: &mut [i32], to: usize, n: usize) -> Place
     requires { ⌜ at ≤ length (now text) ⌝ }
-    requires { ⌜ to + width ≤ length (now numbers) ⌝ }
-    ensures { λ r. ⌜ ReadsRow (now (text .entry)) (Spec.row width (drop at (now (text .entry)))) (now (numbers .entry)) to (now (numbers .exit)) (r .ok) (r .next) ⌝ }
+    requires { ⌜ to + n ≤ length (now numbers) ⌝ }
+    ensures { λ r. ⌜ ReadsRow (now (text .entry)) (Spec.row n (drop at (now (text .entry)))) (now (numbers .entry)) to (now (numbers .exit)) (r .ok) (r .next) ⌝ }
 {
     let mut next = at;
     let mut k = 0;
-    while k < GATE_WIDTH {
-        let v = text::read_ended(text, next, end_of(k));
+    while k < n {
+        let v = text::read_ended(text, next, end_of(k, n));
         let ok = v.ok;
         let value = v.value;
         if !ok {
@@ -116,16 +175,36 @@ fn read_row(text: &[u8], at: usize, numbers: &mut [i32], to: usize) -> Place
     Place { ok: true, next }
 }
 
+// A gate's line. Where it shows five numbers, the gate's line number is 0.
+fn read_gate(text: &[u8], at: usize, numbers: &mut [i32], to: usize, form: u32) -> Place
+    requires { ⌜ at ≤ length (now text) ⌝ }
+    requires { ⌜ to + width ≤ length (now numbers) ⌝ }
+    ensures { λ r. ⌜ ReadsRow (now (text .entry)) (Spec.gateRow (formOf form) (drop at (now (text .entry)))) (now (numbers .entry)) to (now (numbers .exit)) (r .ok) (r .next) ⌝ }
+{
+    let shown = spelling::per_gate(form);
+    let row = read_row(text, at, &mut *numbers, to, shown);
+    let ok = row.ok;
+    let next = row.next;
+    if !ok {
+        return Place { ok: false, next };
+    }
+    if shown == GATE_WIDTH {
+        return Place { ok: true, next };
+    }
+    numbers[to + shown] = 0;
+    Place { ok: true, next }
+}
+
 // The lines of n gates.
-fn read_rows(text: &[u8], at: usize, line: usize, n: usize, numbers: &mut [i32]) -> Rows
-    requires { ⌜ (at ≤ length (now text)) × (line ≤ 2 ^ 33) ⌝ }
+fn read_rows(text: &[u8], at: usize, line: usize, n: usize, numbers: &mut [i32], form: u32) -> Rows
+    requires { ⌜ (at ≤ length (now text)) × (line ≤ 2 ^ 34) ⌝ }
     requires { ⌜ width * n ≤ length (now numbers) ⌝ }
-    ensures { λ r. ⌜ ReadsRows (now (text .entry)) (Spec.rows n line (drop at (now (text .entry)))) (now (numbers .entry)) (now (numbers .exit)) (r .ok) (r .line) (r .next) ⌝ }
+    ensures { λ r. ⌜ ReadsRows (now (text .entry)) (Spec.rows (formOf form) n line (drop at (now (text .entry)))) (now (numbers .entry)) (now (numbers .exit)) (r .ok) (r .line) (r .next) ⌝ }
 {
     let mut next = at;
     let mut i = 0;
     while i < n {
-        let row = read_row(text, next, &mut *numbers, GATE_WIDTH * i);
+        let row = read_gate(text, next, &mut *numbers, GATE_WIDTH * i, form);
         let ok = row.ok;
         if !ok {
             return Rows {
@@ -165,7 +244,7 @@ pub fn read_list(text: &[u8], at: usize, line: usize, most: usize, numbers: &mut
     if most < count {
         return Front::Large(line);
     }
-    let r = read_rows(text, n.next, line + 1, count, numbers);
+    let r = read_rows(text, n.next, line + 1, count, numbers, head.form);
     let last = r.line;
     if r.ok {
         Front::Whole(head, count, last, r.next)

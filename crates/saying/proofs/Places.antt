@@ -1,17 +1,19 @@
 -- Every line that is told of is small: that of a text that was not read.
+use mathlib.Core.Path.{_≡_, refl}
+use mathlib.Core.Logic.{_⊎_, inl, inr}
+use mathlib.Core.Bool.{_||_}
 use mathlib.Core.List.{List, [], _∷_, _++_}
 use Prim.Native.Nat.{ℕ, zero, suc, _+_, _≤_}
 use native.Mathlib.Omega.{arith}
 use borrow.Author.Tests.{ltb-false}
-use lib.Dec.{ltb}
+use lib.Dec.{eqb, ltb}
 use lib.IntN.{ℤ}
-use Rattle.rules.specs.Limits as Limits
-use Rattle.rules.specs.Limits.{width}
 use Rattle.rules.proofs.Bits.{split}
-use Rattle.text.specs.Reading.{Found, none, found, onward, word, naturalLine, countLine}
+use Rattle.text.specs.Reading.{Found, none, found, onward, naturalLine, countLine}
 use Rattle.spelling.specs.Lines.{Lines, bad, good, line}
-use Rattle.spelling.specs.Texts.{Head, gatesWord}
-use Rattle.spelling.specs.Reading.{headLine, headAt, row, Rows, rows, Front, wrong, large, list, Read, malformed, many, read, gathered, counted, headed, listAt, ending, readText}
+use Rattle.spelling.specs.Texts.{Form, Head, headWord, gatesWord}
+use Rattle.spelling.specs.Reading.{headLine, formLine, headAt, gateRow, Rows, rows, Front, wrong, large, list, Read, malformed, many, read, gathered, counted, headed, listAt, ending, readText}
+use Rattle.spelling.proofs.Spelling.{such-read, one-of}
 
 -- the number of the wrong line, or of the next one
 abbrev pub number : {A : Type 0} → Lines A → ℕ
@@ -23,24 +25,43 @@ pub line-number : {A B : Type 0} (k m : ℕ) (o : Found A) (next : A → ℕ →
 line-number k m none next h f = h
 line-number k m (found v left) next h f = f v left
 
-head-number : (k : ℕ) (bs : List ℕ) → number (headAt k bs) ≤ k + 5
+-- the first line of a head says 4 or 5, and its last has no line of its own after `head 4`
+first-number : {B : Type 0} (k m : ℕ) (bs : List ℕ) (next : ℕ → ℕ → List ℕ → Lines B) → k ≤ m
+    → ((n : ℕ) (left : List ℕ) → n ≤ 5 → number (next n (suc k) left) ≤ m) → number (line k (headLine bs) next) ≤ m
+unfolding headLine
+first-number k m bs next h f = go (headLine bs) refl
+  where
+    small : (n : ℕ) → (n ≡ 4) ⊎ (n ≡ 5) → n ≤ 5
+    small n (inl e) = omega arith
+    small n (inr e) = omega arith
+
+    go : (o : Found ℕ) → headLine bs ≡ o → number (line k o next) ≤ m
+    go none e = h
+    go (found n left) e = f n left (small n (one-of 4 5 n (such-read (λ n. eqb n 4 || eqb n 5) (countLine headWord bs) n left e .1)))
+
+form-number : {A B : Type 0} (k m : ℕ) (o : Found A) (next : A → List ℕ → Lines B) → k ≤ m → ((v : A) (left : List ℕ) → number (next v left) ≤ m) → number (onward o (bad k) next) ≤ m
+form-number k m none next h f = h
+form-number k m (found v left) next h f = f v left
+
+head-number : (k : ℕ) (bs : List ℕ) → number (headAt k bs) ≤ k + 6
 unfolding headAt
 head-number k bs =
-    line-number k (k + 5) (word headLine bs) _ (omega arith) (λ u a.
-    line-number (suc k) (k + 5) (naturalLine a) _ (omega arith) (λ x b.
-    line-number (suc (suc k)) (k + 5) (naturalLine b) _ (omega arith) (λ y c.
-    line-number (suc (suc (suc k))) (k + 5) (naturalLine c) _ (omega arith) (λ z d.
-    line-number (suc (suc (suc (suc k)))) (k + 5) (naturalLine d) _ (omega arith) (λ t e. omega arith)))))
+    first-number k (k + 6) bs _ (omega arith) (λ n a few.
+    line-number (suc k) (k + 6) (naturalLine a) _ (omega arith) (λ x b.
+    line-number (suc (suc k)) (k + 6) (naturalLine b) _ (omega arith) (λ y c.
+    line-number (suc (suc (suc k))) (k + 6) (naturalLine c) _ (omega arith) (λ z d.
+    line-number (suc (suc (suc (suc k)))) (k + 6) (naturalLine d) _ (omega arith) (λ t e.
+    form-number (suc (suc (suc (suc (suc k))))) (k + 6) (formLine n e) _ (omega arith) (λ v left. omega (arith, few)))))))
 
-rows-number : (n k : ℕ) (bs : List ℕ) → number (rows n k bs .behind) ≤ k + n
+rows-number : (f : Form) (n k : ℕ) (bs : List ℕ) → number (rows f n k bs .behind) ≤ k + n
 unfolding rows
-rows-number zero k bs = omega arith
-rows-number (suc n) k bs = go (row width bs .behind) (λ left. rows-number n (suc k) left)
+rows-number f zero k bs = omega arith
+rows-number f (suc n) k bs = go (gateRow f bs .behind) (λ left. rows-number f n (suc k) left)
   where
-    go : (o : Found Unit) → ((left : List ℕ) → number (rows n (suc k) left .behind) ≤ suc k + n)
-        → number (onward {B = Rows} o (record { numbers = row width bs .numbers; behind = bad k }) (λ u left. record { numbers = row width bs .numbers ++ rows n (suc k) left .numbers; behind = rows n (suc k) left .behind }) .behind) ≤ k + suc n
-    go none f = omega arith
-    go (found u left) f = omega (arith, f left)
+    go : (o : Found Unit) → ((left : List ℕ) → number (rows f n (suc k) left .behind) ≤ suc k + n)
+        → number (onward {B = Rows} o (record { numbers = gateRow f bs .numbers; behind = bad k }) (λ u left. record { numbers = gateRow f bs .numbers ++ rows f n (suc k) left .numbers; behind = rows f n (suc k) left .behind }) .behind) ≤ k + suc n
+    go none g = omega arith
+    go (found u left) g = omega (arith, g left)
 
 abbrev pub lineOf : Read → ℕ
 lineOf (malformed k) = k
@@ -61,7 +82,7 @@ counted-line : (most : ℕ) (h : Head) (k : ℕ) (o : Found ℕ) → frontLine (
 counted-line most h k none = omega arith
 counted-line most h k (found n left) =
     split (ltb most n) (λ e. rw e (omega arith))
-    (λ e. rw e (omega (arith, ltb-false most n e, rows-number n (suc k) left, gathered-line h (rows n (suc k) left .numbers) (rows n (suc k) left .behind))))
+    (λ e. rw e (omega (arith, ltb-false most n e, rows-number (h .form) n (suc k) left, gathered-line h (rows (h .form) n (suc k) left .numbers) (rows (h .form) n (suc k) left .behind))))
 
 headed-line : (most m : ℕ) (o : Lines Head) → number o ≤ m → frontLine (headed most o) ≤ suc m + most
 headed-line most m (bad k) h = omega arith
@@ -73,6 +94,6 @@ ending-line (large k) = omega arith
 ending-line (list h ns k []) = omega arith
 ending-line (list h ns k (b ∷ bs)) = omega arith
 
-pub text-line : (most : ℕ) (bs : List ℕ) → lineOf (readText most bs) ≤ 7 + most
+pub text-line : (most : ℕ) (bs : List ℕ) → lineOf (readText most bs) ≤ 8 + most
 unfolding readText listAt
-text-line most bs = omega (arith, ending-line (listAt most 1 bs), headed-line most 6 (headAt 1 bs) (head-number 1 bs))
+text-line most bs = omega (arith, ending-line (listAt most 1 bs), headed-line most 7 (headAt 1 bs) (head-number 1 bs))

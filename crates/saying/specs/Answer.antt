@@ -29,7 +29,7 @@ unlessLong text else = firstOf ((ltb listBytes (length text), refusal 10 0 0) �
 
 -- ---- a list's text
 
--- a list that was read gets rooms exactly as long as it needs: only 3, and 6 to 9 and 14 with the gate's index, can come
+-- a list that was read gets rooms exactly as long as it needs: only 3, and 6 to 9, 14 and 18 with the gate's index, can come
 -- (`three-or-gates` among the proofs of `spelling`)
 unfoldable pub exact : Head → List ℤ → Verdict
 unfolding verdict

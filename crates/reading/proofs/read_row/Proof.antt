@@ -2,13 +2,12 @@
 use mathlib.Core.Path.{_≡_, refl, sym, ap, _∙_}
 use Prim.Native.Nat.{ℕ, _+_, _-_, _^_, _≤_, _<_}
 use native.Mathlib.Omega.{arith}
-use native.Mathlib.Nat.{add-zero}
+use native.Mathlib.Nat.{add-zero, sub-zero}
 use borrow.Author.Tests.{not-true, not-false}
 use lib.ListN.{length, drop, length-set}
 use lib.Signed.{mag}
 use mir.Syntax.{w32}
 use mir.ValLaws.{toZ-ofZ}
-use Rattle.rules.specs.Limits.{width}
 use Rattle.text.specs.Bytes.{pasted}
 use Rattle.text.specs.Reading.{ended}
 use Rattle.text.specs.Contracts.{Reads}
@@ -21,26 +20,27 @@ use Rattle.reading.proofs.read_row.Statement.{statement}
 use Rattle.reading.proofs.read_row.Tie as tie
 
 abbrev Inv-loop : tie.InvT-loop
-Inv-loop text at numbers₀ to next₀ k₀ numbers next k =
-    (k ≤ width)
+Inv-loop text at numbers₀ to n next₀ k₀ numbers next k =
+    (k ≤ n)
     × (next ≤ length text)
     × (length numbers ≡ length numbers₀)
-    × (row (width - k) (drop next text) .behind ≡ row width (drop at text) .behind)
-    × (pasted numbers (to + k) (row (width - k) (drop next text) .numbers) ≡ pasted numbers₀ to (row width (drop at text) .numbers))
+    × (row (n - k) (drop next text) .behind ≡ row n (drop at text) .behind)
+    × (pasted numbers (to + k) (row (n - k) (drop next text) .numbers) ≡ pasted numbers₀ to (row n (drop at text) .numbers))
 
 abbrev μ-loop : tie.MeasureT-loop
-μ-loop text at numbers₀ to next₀ k₀ numbers next k = width - k
+μ-loop text at numbers₀ to n next₀ k₀ numbers next k = n - k
 
 -- what was read next, by its place in the line
 reads : (c : tie.After-read-ended Inv-loop μ-loop)
-    → Reads (c .before .before .before .before .before .args .text .now) (ended (ends (width - (c .before .before .before .loop .k + 1))) (drop (c .before .before .before .loop .next) (c .before .before .before .before .before .args .text .now)))
+    → Reads (c .before .before .before .before .before .args .text .now) (ended (ends (c .before .before .before .before .before .args .n - (c .before .before .before .loop .k + 1))) (drop (c .before .before .before .loop .next) (c .before .before .before .before .before .args .text .now)))
     (c .read-ended .result .ok) (c .read-ended .result .value) (c .read-ended .result .next)
 reads c = rw (c .before .end-of .ensures) at (c .read-ended .ensures)
 
 loop-holds : tie.Need-loop-holds Inv-loop μ-loop
 loop-holds c =
     let s = c .before .args in
-    (omega arith, omega arith, refl, refl, ap (λ (j : ℕ). pasted (s .numbers .now) j (row width (drop (s .at) (s .text .now)) .numbers)) (add-zero (s .to)))
+    let all : row (s .n - 0) (drop (s .at) (s .text .now)) ≡ row (s .n) (drop (s .at) (s .text .now)) = rw (sub-zero (s .n)) in
+    (omega arith, omega arith, refl, ap (λ (r : Row). r .behind) all, ap (λ (r : Row). pasted (s .numbers .now) (s .to + 0) (r .numbers)) all ∙ ap (λ (j : ℕ). pasted (s .numbers .now) j (row (s .n) (drop (s .at) (s .text .now)) .numbers)) (add-zero (s .to)))
 
 end-of-requires : tie.Need-end-of-requires Inv-loop μ-loop
 end-of-requires c κs = omega arith
@@ -55,7 +55,7 @@ returns : tie.Need-returns Inv-loop μ-loop
 returns c =
     let p = c .before .before .before .before .before in
     let s = p .before .before .args in
-    let e = row-stop width (p .loop .k) (drop (p .loop .next) (s .text .now)) (omega arith) (reads-no _ _ _ _ _ (reads (c .before .before)) (not-true _ (c .if1 .taken))) in
+    let e = row-stop (s .n) (p .loop .k) (drop (p .loop .next) (s .text .now)) (omega arith) (reads-no _ _ _ _ _ (reads (c .before .before)) (not-true _ (c .if1 .taken))) in
     record {
       exact = sym (ap (λ (r : Row). r .behind) e) ∙ p .loop .inv .3;
       within = p .loop .inv .1;
@@ -84,7 +84,7 @@ loop-again c =
     let v = c .before .before .read-ended in
     let fits : mag (v .result .value) < 2 ^ 31 = omega arith in
     let t =
-    row-once (p .loop .numbers) (s .to) width (p .loop .k) (drop (p .loop .next) (s .text .now)) (v .result .value) (drop (v .result .next) (s .text .now))
+    row-once (p .loop .numbers) (s .to) (s .n) (p .loop .k) (drop (p .loop .next) (s .text .now)) (v .result .value) (drop (v .result .next) (s .text .now))
     (omega arith) (omega arith) (reads-ok _ _ _ _ _ (reads (c .before .before)) (not-false _ (c .if1 .left))) in
     rw (toZ-ofZ w32 (v .result .value) (record { sfits = fits }))
     (omega arith, v .ensures .within, length-set (p .loop .numbers) (s .to + p .loop .k) (v .result .value) ∙ p .loop .inv .2, t .0 ∙ p .loop .inv .3, t .1 ∙ p .loop .inv .4)
@@ -96,7 +96,7 @@ returns-2 : tie.Need-returns-2 Inv-loop μ-loop
 returns-2 c =
     let p = c .before in
     let s = p .before .before .args in
-    let e = row-end width (p .loop .k) (drop (p .loop .next) (s .text .now)) (omega arith) in
+    let e = row-end (s .n) (p .loop .k) (drop (p .loop .next) (s .text .now)) (omega arith) in
     record {
       exact = sym (ap (λ (r : Row). r .behind) e) ∙ p .loop .inv .3;
       within = p .loop .inv .1;
