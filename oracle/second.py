@@ -1,13 +1,13 @@
 """A second reading of the texts, from the documents: a list's text, a laboratory's text (OpenQASM 2.0), and what each program prints for one.
 
-Refusals 3, 6 to 9 and 14 of a list, and what the pass makes of it, come from the oracle (target/oracle/oracle, which oracle/build makes from the
+Refusals 3, 6 to 9, 14 and 18 of a list, and what the pass makes of it, come from the oracle (target/oracle/oracle, which oracle/build makes from the
 original's text)."""
 import os
 import re
 import struct
 import subprocess
 
-from sizes import MOST_BITS, MOST_BYTES, MOST_GATES, MOST_WIRES, WIDTH
+from sizes import FIELDS, MOST_BITS, MOST_BYTES, MOST_GATES, MOST_WIRES, WIDTH
 
 ORACLE = os.path.join(os.path.dirname(os.path.abspath(__file__)), "..", "target", "oracle", "oracle")
 TOP = 2147483647
@@ -63,13 +63,19 @@ def few_bytes(text):
         raise Refused(10, 0, 0)
 
 
+def in_line(head):
+    """How many numbers a gate's line has."""
+    return head[4] if len(head) > 4 else FIELDS
+
+
 def read_list(text):
-    """Wires, bits, both caps, and the gates' numbers."""
+    """The head's numbers, four or five of them, and the gates' numbers, in rows with a line."""
     few_bytes(text)
     lines = Lines(text, 11)
-    if lines.next() != b"head 4":
+    size = {b"head 4": 4, b"head 5": 5}.get(lines.next())
+    head = [lines.taken(natural(lines.next())) for _ in range(lines.taken(size))]
+    if in_line(head) not in (FIELDS, WIDTH):
         lines.wrong()
-    head = [lines.taken(natural(lines.next())) for _ in range(4)]
     word, space, count = lines.next().partition(b" ")
     count = lines.taken(natural(count) if word + space == b"gates " else None)
     if count > MOST_GATES:
@@ -77,9 +83,9 @@ def read_list(text):
     numbers = []
     for _ in range(count):
         words = lines.next().split(b" ")
-        if len(words) != WIDTH:
+        if len(words) != in_line(head):
             lines.wrong()
-        numbers += [lines.taken(signed(word)) for word in words]
+        numbers += [lines.taken(signed(word)) for word in words] + [0] * (WIDTH - in_line(head))
     lines.end()
     return head, numbers
 
@@ -89,7 +95,8 @@ def rows(numbers):
 
 
 def list_text(head, numbers):
-    lines = ["head 4", *head, f"gates {len(numbers) // WIDTH}", *(" ".join(map(str, row)) for row in rows(numbers))]
+    gates = [" ".join(map(str, row[: in_line(head)])) for row in rows(numbers)]
+    lines = [f"head {len(head)}", *head, f"gates {len(gates)}", *gates]
     return "".join(f"{line}\n" for line in lines).encode()
 
 
@@ -138,7 +145,7 @@ def register(text, form):
 
 
 def read_qasm(text):
-    """Wires, bits, and the gates' numbers."""
+    """Wires, bits, and the gates' numbers, the last of each the statement's line."""
     few_bytes(text)
     lines = Lines(text, 13)
     for word in (b"OPENQASM 2.0;", b'include "qelib1.inc";'):
@@ -149,7 +156,7 @@ def read_qasm(text):
     lines.at += one + two
     numbers = []
     while lines.rest:
-        numbers += lines.taken(statement(lines.next(), wires, bits))
+        numbers += lines.taken(statement(lines.next(), wires, bits)) + [lines.at]
     if len(numbers) > WIDTH * MOST_GATES:
         raise Refused(12, 0, 0)
     if wires > MOST_WIRES or bits > MOST_BITS:
@@ -159,7 +166,7 @@ def read_qasm(text):
 
 def spelled(row):
     """A gate's statement, or none."""
-    code, a, b, c, turn = row
+    code, a, b, c, turn, _ = row
     if code in PLAIN.values():
         return f"{NAMES[code]} q[{a}];"
     if code in PAIRS.values():
@@ -185,7 +192,7 @@ def qasm_text(wires, bits, numbers):
 def asked(head, numbers):
     """A list with exact rooms, as the oracle reads it."""
     g = len(numbers) // WIDTH
-    return struct.pack("<9Q", *head, len(numbers), len(numbers), 9 * g, 2 * (g + 128), 0) + struct.pack(f"<{len(numbers)}i", *numbers)
+    return struct.pack("<9Q", *head[:4], len(numbers), len(numbers), 9 * g, 2 * (g + 128), 0) + struct.pack(f"<{len(numbers)}i", *numbers)
 
 
 def answers(cases):
@@ -214,7 +221,7 @@ def listed(head, numbers, counts, gates):
 
 def imported(text):
     wires, bits, numbers = read_qasm(text)
-    return [wires, bits, 128, 512], numbers
+    return [wires, bits, 128, 512, WIDTH], numbers
 
 
 PROGRAMS = {

@@ -19,7 +19,7 @@ struct Tally {
     lists: u64,
     gates: [u64; 2],
     blocks: [u64; 2],
-    refused: [u64; 15],
+    refused: [u64; 19],
     /// Lists in which t and tdg alone rose. T as the machine spends it never does: see `rises`.
     rose: u64,
 }
@@ -40,7 +40,7 @@ impl Tally {
     }
 
     fn print(&self, kind: &str, seconds: f64) {
-        let refused: Vec<String> = (1..15).filter(|&k| self.refused[k] > 0).map(|k| format!("{k}: {}", self.refused[k])).collect();
+        let refused: Vec<String> = (1..19).filter(|&k| self.refused[k] > 0).map(|k| format!("{k}: {}", self.refused[k])).collect();
         let refused = if refused.is_empty() { "none".to_string() } else { refused.join(", ") };
         println!(
             "{kind}: {} lists, {} gates in, {} out, {} blocks closed, {} replaced, refused {refused}; T rose in none, t and tdg alone in {}; {seconds:.1} s",

@@ -1,6 +1,6 @@
 //! Damaged lists: a good list with one to three faults, so that every number of the table is told, and which comes first when there are several.
 use crate::case::Case;
-use crate::gates::WIDTH;
+use crate::gates::{FIELDS, WIDTH};
 use crate::make::{Rng, blocks, random};
 
 const CODES: [i32; 6] = [0, 28, 29, -1, i32::MIN, i32::MAX];
@@ -26,7 +26,7 @@ pub fn fault(r: &mut Rng, case: &mut Case, number: usize) {
     let gated = g > 0;
     match number {
         1 => {
-            let cut = r.from(1, 4);
+            let cut = r.from(1, WIDTH - 1);
             if r.chance(50) && case.list.len() > cut {
                 case.list.truncate(case.list.len() - cut);
             } else {
@@ -67,6 +67,7 @@ pub fn fault(r: &mut Rng, case: &mut Case, number: usize) {
                 case.list[at + j] = case.list[at + i];
             }
         }
+        18 if gated => case.list[at + FIELDS] = r.pick(&[-1, -2, i32::MIN]),
         _ => {}
     }
 }
@@ -75,7 +76,7 @@ pub fn damaged(r: &mut Rng) -> Case {
     let mut case = if r.chance(70) { random(r) } else { blocks(r) };
     for _ in 0..r.pick(&[1, 1, 1, 2, 3]) {
         // a list of more than 8,192 gates is dear to send
-        let number = if r.below(2000) == 0 { 2 } else { r.pick(&[1, 3, 4, 5, 6, 6, 7, 7, 8, 8, 9, 9]) };
+        let number = if r.below(2000) == 0 { 2 } else { r.pick(&[1, 3, 4, 5, 6, 6, 7, 7, 8, 8, 9, 9, 18]) };
         fault(r, &mut case, number);
     }
     case

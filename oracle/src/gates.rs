@@ -1,9 +1,12 @@
-//! A gate as five numbers, by document 01's table, and as the original has it.
+//! A gate as numbers, by document 01's table, and as the original has it.
 use crate::circuit::Gate;
 use crate::rest;
 
-/// Numbers to a gate.
-pub const WIDTH: usize = 5;
+/// Numbers that the original knows of a gate.
+pub const FIELDS: usize = 5;
+
+/// Numbers to a gate: the line is the last.
+pub const WIDTH: usize = FIELDS + 1;
 
 pub fn gate(n: &[i32]) -> Gate {
     let (a, b, c, turn) = (n[1] as u32, n[2] as u32, n[3] as u32, rest::angle(n[4]));
@@ -40,7 +43,7 @@ pub fn gate(n: &[i32]) -> Gate {
     }
 }
 
-pub fn numbers(g: &Gate) -> [i32; WIDTH] {
+pub fn numbers(g: &Gate) -> [i32; FIELDS] {
     let one = |code: i32, q: &u32| [code, *q as i32, 0, 0, 0];
     let two = |code: i32, p: &u32, q: &u32| [code, *p as i32, *q as i32, 0, 0];
     match g {

@@ -1,5 +1,5 @@
 //! Lists made from a seed: random gates, and shapes that are often written shorter.
-use crate::gates::WIDTH;
+use crate::gates::{FIELDS, WIDTH};
 use crate::case::Case;
 
 /// A small generator of numbers (splitmix64): the same seed makes the same lists everywhere.
@@ -43,7 +43,7 @@ const CNOT: i32 = 8;
 const CZ: i32 = 9;
 const MEASURE: i32 = 27;
 
-pub type Gate = [i32; WIDTH];
+pub type Gate = [i32; FIELDS];
 
 const TURNS: [i32; 20] = [0, 1, 2, 3, 4, 5, 6, 7, 8, 9, -1, -2, -3, -4, -7, -8, -9, i32::MIN, i32::MIN + 1, i32::MAX];
 
@@ -176,8 +176,19 @@ pub fn shape(r: &mut Rng, wires: &[i32]) -> Vec<Gate> {
 
 // ---- lists
 
+/// The line of the gate at a place: different ones side by side, 0 and the largest among them.
+fn line(i: usize) -> i32 {
+    match i % 11 {
+        4 => 0,
+        9 => i32::MAX,
+        _ => (i * 7919 % 100_003) as i32,
+    }
+}
+
+/// The gates as a list's numbers, each with a line.
 pub fn flat(gates: &[Gate]) -> Vec<i32> {
-    gates.concat()
+    let row = |(i, gate): (usize, &Gate)| -> [i32; WIDTH] { std::array::from_fn(|k| if k < FIELDS { gate[k] } else { line(i) }) };
+    gates.iter().enumerate().flat_map(row).collect()
 }
 
 /// The first n wires under other names, so that local index and wire differ.

@@ -1,6 +1,6 @@
-//! A second reading of document 01, of what the original does not tell: when a list is refused, with the field that document 02 adds (A2), and where
-//! the scan cuts it. It is written from the documents' words alone and shares nothing with the original or with the port.
-use crate::gates::WIDTH;
+//! A second reading of document 01, of what the original does not tell: when a list is refused, with the field and the line that
+//! document 02 adds (A2, A9), and where the scan cuts it. It is written from the documents' words alone and shares nothing with the original or with the port.
+use crate::gates::{FIELDS, WIDTH};
 use crate::case::Case;
 use std::collections::BTreeSet;
 use std::ops::Range;
@@ -24,7 +24,7 @@ fn fault(gate: &[i32], wires: u64, bits: u64) -> Option<(u32, u32)> {
     }
     let (n, bit, turn) = uses(gate[0]);
     let used = [true, true, n >= 2 || bit, n >= 3, turn];
-    if (0..5).any(|k| !used[k] && gate[k] != 0) {
+    if (0..FIELDS).any(|k| !used[k] && gate[k] != 0) {
         return Some((7, 0));
     }
     // the fields from left to right: a wire by 8, the bit by 14
@@ -37,7 +37,10 @@ fn fault(gate: &[i32], wires: u64, bits: u64) -> Option<(u32, u32)> {
     }
     let on = &gate[1..1 + n];
     let twice = (1..n).any(|k| on[..k].contains(&on[k]));
-    twice.then_some((9, 0))
+    if twice {
+        return Some((9, 0));
+    }
+    (gate[FIELDS] < 0).then_some((18, 0))
 }
 
 /// The number, the place and the field of the documents' tables, or none for an accepted list.

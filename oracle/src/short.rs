@@ -1,6 +1,6 @@
 //! Every list up to a length over some gates, at some caps.
 use crate::case::Case;
-use crate::make::Gate;
+use crate::make::{Gate, flat};
 
 struct Table {
     wires: u64,
@@ -58,9 +58,9 @@ impl Table {
             for number in 0..base.pow(length) {
                 // the list is the number's digits
                 let digits = (0..length).map(|k| (number / base.pow(k) % base) as usize);
-                let list: Vec<i32> = digits.flat_map(|d| self.gates[d]).collect();
+                let list: Vec<Gate> = digits.map(|d| self.gates[d]).collect();
                 for &(q, t) in &self.caps {
-                    f(Case::new(self.wires, self.bits, q, t, list.clone()));
+                    f(Case::new(self.wires, self.bits, q, t, flat(&list)));
                 }
             }
         }

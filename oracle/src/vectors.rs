@@ -1,5 +1,5 @@
 //! The stored cases and their answers, the same bytes for the same seed: fixed lists, refusals and rooms by the table, and random lists.
-use crate::gates::WIDTH;
+use crate::gates::{FIELDS, WIDTH};
 use crate::answer::answer;
 use crate::case::Case;
 use crate::make::{CAPS, Gate, Rng, blocks, flat, names, random, shape, wide};
@@ -25,8 +25,8 @@ fn fixed(path: &str) -> io::Result<Vec<Case>> {
     Ok(lines
         .map(|line| {
             let n: Vec<i64> = line.split_ascii_whitespace().map(|w| w.parse().expect("a number")).collect();
-            let list = n[4..].iter().map(|&x| x as i32).collect();
-            Case::new(n[0] as u64, n[1] as u64, n[2] as u64, n[3] as u64, list)
+            let gates: Vec<Gate> = n[4..].chunks(FIELDS).map(|g| std::array::from_fn(|k| g[k] as i32)).collect();
+            Case::new(n[0] as u64, n[1] as u64, n[2] as u64, n[3] as u64, flat(&gates))
         })
         .collect())
 }
@@ -35,9 +35,9 @@ fn fixed(path: &str) -> io::Result<Vec<Case>> {
 fn codes(out: &mut Vec<Case>) {
     for code in 1..=27 {
         for (q, t) in [(128, 512), (0, 0), (u64::MAX, u64::MAX)] {
-            out.push(Case::new(3, 1, q, t, sound(code).to_vec()));
+            out.push(Case::new(3, 1, q, t, flat(&[sound(code)])));
         }
-        for field in 1..5 {
+        for field in 1..FIELDS {
             for x in [1, 2, 3, -1, i32::MIN, i32::MAX] {
                 let mut gates = vec![sound(code), sound(code)];
                 gates[1][field] = x;
@@ -86,10 +86,25 @@ fn ranges(out: &mut Vec<Case>) {
     }
 }
 
+/// Each code with a line at both ends of its range and one below; then with a wire twice, or before a gate that has no code.
+fn lines(out: &mut Vec<Case>) {
+    let mut push = |gates: &[Gate], line: i32| {
+        let mut list = flat(gates);
+        list[WIDTH + FIELDS] = line;
+        out.push(Case::new(3, 1, 128, 512, list));
+    };
+    for code in 1..=27 {
+        [-1, i32::MIN, 0, i32::MAX].iter().for_each(|&line| push(&[sound(2), sound(code)], line));
+    }
+    push(&[sound(2), [8, 1, 1, 0, 0]], -1);
+    push(&[sound(2), sound(8), [0; FIELDS]], -1);
+    push(&[sound(2), [27, 0, 1, 0, 0]], -1);
+}
+
 /// Each room one short, exact and larger, for lists of 0 to 7 gates.
 fn rooms(out: &mut Vec<Case>) {
     for g in [0, 1, 2, 7] {
-        let exact = Case::new(1, 0, 128, 512, sound(2).repeat(g));
+        let exact = Case::new(1, 0, 128, 512, flat(&vec![sound(2); g]));
         for room in [exact.out.wrapping_sub(1), exact.out, exact.out + 1] {
             for terms in [exact.terms.wrapping_sub(1), exact.terms, exact.terms + 1, exact.terms + 2] {
                 for steps in [exact.steps - 1, exact.steps, exact.steps + 1] {
@@ -105,7 +120,7 @@ fn rooms(out: &mut Vec<Case>) {
 
 /// Rooms that are looked at wrongly, exact and one number larger, of a list that is written shorter and of one that is refused.
 fn looked(out: &mut Vec<Case>) {
-    for list in [sound(2).repeat(2), vec![0; WIDTH]] {
+    for list in [flat(&[sound(2); 2]), vec![0; WIDTH]] {
         let exact = Case::new(1, 0, 128, 512, list);
         for more in [0, 1] {
             for ask in 0..8 {
@@ -121,8 +136,8 @@ fn limits(out: &mut Vec<Case>) {
         out.push(Case::new(wires, bits, 128, 512, Vec::new()));
         out.push(Case::new(wires, bits, 128, 512, flat(&[[2, 1023, 0, 0, 0], [27, 1023, 1023, 0, 0]])));
     }
-    for extra in 1..5 {
-        out.push(Case::new(3, 1, 128, 512, [sound(2).to_vec(), vec![0; extra]].concat()));
+    for extra in 1..WIDTH {
+        out.push(Case::new(3, 1, 128, 512, [flat(&[sound(2)]), vec![0; extra]].concat()));
     }
     let faults: [fn(&mut Case); 7] =
         [|c| c.list.push(0), |c| c.wires = 1025, |c| c.out = 0, |c| c.terms = 0, |c| c.list[0] = 28, |c| c.list[1] = 5, |c| c.list[4] = 1];
@@ -135,7 +150,7 @@ fn limits(out: &mut Vec<Case>) {
     }
     // 7 before 8 before 9 within a gate, and the earlier gate first
     for gate in [[8, 0, 0, 1, 0], [8, 3, 3, 0, 0], [8, 3, 3, 1, 0], [24, 1, 2, 1, 0], [27, 0, 1, 0, 0], [27, 0, 0, 0, 0]] {
-        out.push(Case::new(3, 1, 128, 512, flat(&[sound(2), gate, [0; WIDTH]])));
+        out.push(Case::new(3, 1, 128, 512, flat(&[sound(2), gate, [0; FIELDS]])));
     }
 }
 
@@ -171,6 +186,7 @@ fn all(lists: &str, seed: u64) -> io::Result<Vec<Case>> {
     let mut out = fixed(lists)?;
     codes(&mut out);
     ranges(&mut out);
+    lines(&mut out);
     rooms(&mut out);
     looked(&mut out);
     limits(&mut out);
