@@ -152,7 +152,8 @@ fn walk(name: &str, n: usize, inputs: Vec<Vec<(u128, Angle)>>) {
     for (t, set) in inputs.iter().zip(&flat) {
         let made = numbers(doors::walk(&mut theirs_room, n, t, &mut state, &wires, all, all).expect("room enough"));
         let count = ours_of(set, &mut terms, &mut held, &mut out);
-        assert_eq!(made, out[..5 * count], "the walks differ");
+        let fields: Vec<i32> = out[..gates::WIDTH * count].chunks(gates::WIDTH).flat_map(|gate| &gate[..gates::FIELDS]).copied().collect();
+        assert_eq!(made, fields, "the walks differ");
         assert_eq!(words(&state), held, "the rows differ");
     }
     let theirs = best(7, inputs.len(), || {

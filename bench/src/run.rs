@@ -11,7 +11,7 @@ mod gates;
 mod random;
 
 use circuit::Circuit;
-use gates::WIDTH;
+use gates::{FIELDS, WIDTH};
 use random::Random;
 use std::hint::black_box;
 use std::time::Instant;
@@ -50,12 +50,23 @@ impl Rooms {
 
 type List = Vec<i32>;
 
+/// A gate with its line, which counts from 1.
+fn push(list: &mut List, gate: [i32; FIELDS]) {
+    list.extend(gate);
+    list.push((list.len() / WIDTH + 1) as i32);
+}
+
+/// A list without its lines.
+fn fields(list: &[i32]) -> List {
+    list.chunks(WIDTH).flat_map(|gate| &gate[..FIELDS]).copied().collect()
+}
+
 fn one(list: &mut List, code: i32, q: usize) {
-    list.extend([code, q as i32, 0, 0, 0]);
+    push(list, [code, q as i32, 0, 0, 0]);
 }
 
 fn two(list: &mut List, code: i32, p: usize, q: usize) {
-    list.extend([code, p as i32, q as i32, 0, 0]);
+    push(list, [code, p as i32, q as i32, 0, 0]);
 }
 
 /// Random gates of the fragment: `rotations` percent of them rotations, the others CNOT, CZ and x; and an h now and then.
@@ -119,10 +130,10 @@ fn fourier(gates: usize, wires: usize) -> List {
         for i in 0..wires {
             for j in i + 1..wires {
                 let k = 1 + ((j - i) % 3) as i32;
-                list.extend([7, i as i32, 0, 0, k]);
-                list.extend([7, j as i32, 0, 0, k]);
+                push(&mut list, [7, i as i32, 0, 0, k]);
+                push(&mut list, [7, j as i32, 0, 0, k]);
                 two(&mut list, 8, i, j);
-                list.extend([7, j as i32, 0, 0, -k]);
+                push(&mut list, [7, j as i32, 0, 0, -k]);
                 two(&mut list, 8, i, j);
                 if list.len() >= WIDTH * gates {
                     break 'full;
@@ -173,7 +184,7 @@ fn compare(name: &str, lists: &[List], wires: usize, qubits: usize, terms: usize
     for ((list, circuit), room) in lists.iter().zip(&circuits).zip(&mut rooms) {
         assert_eq!(room.run(list, wires, qubits, terms), 0, "{name}: refused");
         let theirs: List = cnot_min::cnot_min_with(circuit, qubits, terms).gates.iter().flat_map(gates::numbers).collect();
-        assert_eq!(room.out[..5 * room.counts[1] as usize], theirs, "{name}: the outputs differ");
+        assert_eq!(fields(&room.out[..WIDTH * room.counts[1] as usize]), theirs, "{name}: the outputs differ");
     }
     let (mut ours, mut theirs) = (Vec::new(), Vec::new());
     let began = Instant::now();
