@@ -9,7 +9,7 @@
  * Refusals, by number (README.md has the codes of the gates and the grammar of a text):
  *
  *   dilkovan_cnot_min                                        dilkovan_list and dilkovan_export
- *   1  the list's length is no multiple of DILKOVAN_WIDTH     3, 6 to 9, 14  as on the left
+ *   1  the list's length is no multiple of DILKOVAN_WIDTH     3, 6 to 9, 14, 18  as on the left
  *   2  more than 8,192 gates                                  10  a text above 16,384 bytes
  *   3  more than 1,024 wires or classical bits                11  a malformed, missing or surplus line
  *   4  `out` is shorter than the list                         12  more than 512 gates
@@ -19,8 +19,9 @@
  *   8  a wire out of range                                    10  a text above 16,384 bytes
  *   14 a measure's classical bit out of range                 13  a wrong or missing line
  *   9  the same wire twice in one gate                        12  more than 512 gates; 3  as on the left
+ *   18 a negative line
  *
- * In this order; 8 and 14 as the fields stand. The place is the gate's index from 0 for 6 to 9, 14 and export's 13, the line's number from 1 for
+ * In this order; 8 and 14 as the fields stand. The place is the gate's index from 0 for 6 to 9, 14, 18 and export's 13, the line's number from 1 for
  * 11, 12 of a list and 13 of a laboratory's text, and else 0. The field is 1, 2 or 3 for 8 and 14, the first of the gate's `first`, `second` and
  * `third` that is out of range, and else 0. */
 #ifndef DILKOVAN_H
@@ -34,7 +35,7 @@ extern "C" {
 #endif
 
 /* The numbers of a gate, and of the rooms that a list of g gates needs. */
-#define DILKOVAN_WIDTH 5
+#define DILKOVAN_WIDTH 6
 #define DILKOVAN_TERMS(g) (9 * (g))
 #define DILKOVAN_STEPS(g) (2 * ((g) + 128))
 
@@ -43,7 +44,7 @@ extern "C" {
 #define DILKOVAN_NUMBER(answer) ((answer) >> 32 & 0xffff)
 #define DILKOVAN_PLACE(answer) ((answer) & 0xffffffff)
 
-/* Shortens a list of gates, DILKOVAN_WIDTH numbers each: code, first, second, third, turn.
+/* Shortens a list of gates, DILKOVAN_WIDTH numbers each: code, first, second, third, turn, line.
  *
  * For g gates, `out` needs DILKOVAN_WIDTH * g numbers, `terms` DILKOVAN_TERMS(g) and `steps` DILKOVAN_STEPS(g); they may hold any numbers, and may be longer. Nothing beyond
  * these parts is ever written, and the list never. The qubit cap is clamped to 1..128, the term cap raised to at least 1.

@@ -117,30 +117,30 @@ static void numbers(Call c, uint64_t answer, const int32_t *result, const uint64
     settle(c.name, "counts", count, result ? counts : found, sizeof found, 0);
 }
 
-static const int32_t three[] = {1, 0, 0, 0, 0, 2, 0, 0, 0, 0, 1, 0, 0, 0, 0}; /* x0 t0 x0 */
-static const int32_t one[] = {3, 0, 0, 0, 0};                                 /* tdg0 */
+static const int32_t three[] = {1, 0, 0, 0, 0, 9, 2, 0, 0, 0, 0, 7, 1, 0, 0, 0, 0, 8}; /* x0 t0 x0, of lines 9, 7 and 8 */
+static const int32_t one[] = {3, 0, 0, 0, 0, 9};                                       /* tdg0, of the first gate's line */
 static const uint64_t three_counts[8] = {3, 1, 0, 0, 1, 1, 1, 1};
 
 static void rooms(void) {
-    Call c = {"exact rooms", three, 15, 1, 0, 128, 512, 0, 0, 0};
+    Call c = {"exact rooms", three, 18, 1, 0, 128, 512, 0, 0, 0};
     numbers(c, 0, one, three_counts);
-    c = (Call){"longer rooms", three, 15, 1, 0, 128, 512, 9, 8, 7};
+    c = (Call){"longer rooms", three, 18, 1, 0, 128, 512, 9, 8, 7};
     numbers(c, 0, one, three_counts);
-    c = (Call){"the largest head", three, 15, 1024, 1024, SIZE_MAX, SIZE_MAX, 1, 1, 1};
+    c = (Call){"the largest head", three, 18, 1024, 1024, SIZE_MAX, SIZE_MAX, 1, 1, 1};
     numbers(c, 0, one, three_counts);
-    c = (Call){"caps of 0", three, 15, 1, 0, 0, 0, 0, 0, 0};
+    c = (Call){"caps of 0", three, 18, 1, 0, 0, 0, 0, 0, 0};
     numbers(c, 0, one, three_counts);
-    c = (Call){"out one short", three, 15, 1, 0, 128, 512, -1, 0, 0};
+    c = (Call){"out one short", three, 18, 1, 0, 128, 512, -1, 0, 0};
     numbers(c, REFUSED(4, 0), NULL, none);
-    c = (Call){"terms one short", three, 15, 1, 0, 128, 512, 0, -1, 0};
+    c = (Call){"terms one short", three, 18, 1, 0, 128, 512, 0, -1, 0};
     numbers(c, REFUSED(5, 0), NULL, none);
-    c = (Call){"steps one short", three, 15, 1, 0, 128, 512, 0, 0, -1};
+    c = (Call){"steps one short", three, 18, 1, 0, 128, 512, 0, 0, -1};
     numbers(c, REFUSED(5, 0), NULL, none);
-    c = (Call){"every room one short", three, 15, 1, 0, 128, 512, -1, -1, -1};
+    c = (Call){"every room one short", three, 18, 1, 0, 128, 512, -1, -1, -1};
     numbers(c, REFUSED(4, 0), NULL, none);
-    c = (Call){"no room at all", three, 15, 1, 0, 128, 512, -15, -27, -262};
+    c = (Call){"no room at all", three, 18, 1, 0, 128, 512, -18, -27, -262};
     numbers(c, REFUSED(4, 0), NULL, none);
-    c = (Call){"3 before 4 and 5", three, 15, 1025, 0, 128, 512, -1, -1, -1};
+    c = (Call){"3 before 4 and 5", three, 18, 1025, 0, 128, 512, -1, -1, -1};
     numbers(c, REFUSED(3, 0), NULL, none);
     c = (Call){"no gates", three, 0, 0, 0, 128, 512, 0, 0, 0};
     numbers(c, 0, one, none);
@@ -152,25 +152,25 @@ static void rooms(void) {
 
 /* Two gates on three wires and two bits, of which the second is refused, in exact rooms and in longer ones. */
 static void gate(const char *name, int number, int field, int32_t code, int32_t first, int32_t second, int32_t third, int32_t turn) {
-    int32_t list[10] = {2, 0, 0, 0, 0, code, first, second, third, turn};
+    int32_t list[12] = {2, 0, 0, 0, 0, 0, code, first, second, third, turn, 5};
     for (long more = 0; more < 4; more += 3) {
-        Call c = {name, list, 10, 3, 2, 128, 512, more, more, more};
+        Call c = {name, list, 12, 3, 2, 128, 512, more, more, more};
         numbers(c, REFUSED_AT(number, 1, field), NULL, none);
     }
 }
 
 static void refusals(int32_t *list) {
-    for (size_t length = 14; length > 10; length--) {
-        Call c = {"1: no multiple of 5", three, length, 1, 0, 128, 512, 0, 0, 0};
+    for (size_t length = 17; length > 12; length--) {
+        Call c = {"1: no multiple of 6", three, length, 1, 0, 128, 512, 0, 0, 0};
         numbers(c, REFUSED(1, 0), NULL, none);
     }
     for (size_t i = 0; i < DILKOVAN_WIDTH * MOST; i++)
         list[i] = i % DILKOVAN_WIDTH == 0 ? 2 : 0;
     Call c = {"2: 8,193 gates", list, DILKOVAN_WIDTH * MOST, 1, 0, 128, 512, 0, 0, 0};
     numbers(c, REFUSED(2, 0), NULL, none);
-    c = (Call){"3: wires", three, 15, 1025, 0, 128, 512, 0, 0, 0};
+    c = (Call){"3: wires", three, 18, 1025, 0, 128, 512, 0, 0, 0};
     numbers(c, REFUSED(3, 0), NULL, none);
-    c = (Call){"3: bits", three, 15, 1, 1025, 128, 512, 0, 0, 0};
+    c = (Call){"3: bits", three, 18, 1, 1025, 128, 512, 0, 0, 0};
     numbers(c, REFUSED(3, 0), NULL, none);
     gate("6: code 0", 6, 0, 0, 0, 0, 0, 0);
     gate("6: code 28", 6, 0, 28, 0, 0, 0, 0);
@@ -188,6 +188,9 @@ static void refusals(int32_t *list) {
     gate("8 before 9: third, and the others alike", 8, 3, 24, 1, 1, 3, 0);
     gate("9: control and target", 9, 0, 8, 1, 1, 0, 0);
     gate("9: second and third", 9, 0, 26, 0, 2, 2, 0);
+    static const int32_t negative[] = {2, 0, 0, 0, 0, 4, 2, 0, 0, 0, 0, -1, 28, 0, 0, 0, 0, 0};
+    c = (Call){"18: a negative line", negative, 18, 1, 0, 128, 512, 0, 0, 0};
+    numbers(c, REFUSED(18, 1), NULL, none);
     list[DILKOVAN_WIDTH * (MOST - 2)] = 28;
     c = (Call){"6: the last of 8,192 gates", list, DILKOVAN_WIDTH * (MOST - 1), 1, 0, 128, 512, 0, 0, 0};
     numbers(c, REFUSED(6, MOST - 2), NULL, none);

@@ -18,7 +18,7 @@ static void shorten(const int32_t list[DILKOVAN_WIDTH * GATES]) {
     }
     printf("%" PRIu64 " gates in, %" PRIu64 " out:\n", counts[0], counts[1]);
     for (const int32_t *gate = out; gate < out + DILKOVAN_WIDTH * counts[1]; gate += DILKOVAN_WIDTH)
-        printf("%" PRId32 " %" PRId32 " %" PRId32 " %" PRId32 " %" PRId32 "\n", gate[0], gate[1], gate[2], gate[3], gate[4]);
+        printf("%" PRId32 " %" PRId32 " %" PRId32 " %" PRId32 " %" PRId32 " %" PRId32 "\n", gate[0], gate[1], gate[2], gate[3], gate[4], gate[5]);
 }
 
 typedef uint64_t (*Door)(const uint8_t *, size_t, uint8_t[DILKOVAN_LIST_BYTES], size_t *);
@@ -34,9 +34,9 @@ static void answer(Door door, const char *text) {
 
 int main(void) {
     /* x, t, x is one tdg, since an x in front of a t turns the phase around */
-    shorten((const int32_t[]){1, 0, 0, 0, 0, 2, 0, 0, 0, 0, 1, 0, 0, 0, 0});
+    shorten((const int32_t[]){1, 0, 0, 0, 0, 4, 2, 0, 0, 0, 0, 5, 1, 0, 0, 0, 0, 6});
     /* the last gate is on a wire that isn't there */
-    shorten((const int32_t[]){1, 0, 0, 0, 0, 2, 0, 0, 0, 0, 1, 1, 0, 0, 0});
+    shorten((const int32_t[]){1, 0, 0, 0, 0, 4, 2, 0, 0, 0, 0, 5, 1, 1, 0, 0, 0, 6});
     /* two t are one s */
     answer(dilkovan_list, "head 4\n1\n0\n128\n512\ngates 2\n2 0 0 0 0\n2 0 0 0 0\n");
     /* the second gate is missing */

@@ -3,7 +3,7 @@
 use std::io::Write;
 
 /// Numbers to a gate.
-const WIDTH: usize = 5;
+const WIDTH: usize = 6;
 
 extern "C" {
     fn dilkovan_cnot_min(
@@ -46,15 +46,15 @@ fn answer(door: Door, text: &[u8]) -> Result<Vec<u8>, Vec<u8>> {
 fn main() -> std::io::Result<()> {
     let lists = [
         // x, t, x is one tdg, since an x in front of a t turns the phase around
-        [1, 0, 0, 0, 0, 2, 0, 0, 0, 0, 1, 0, 0, 0, 0],
+        [1, 0, 0, 0, 0, 4, 2, 0, 0, 0, 0, 5, 1, 0, 0, 0, 0, 6],
         // the last gate is on a wire that isn't there
-        [1, 0, 0, 0, 0, 2, 0, 0, 0, 0, 1, 1, 0, 0, 0],
+        [1, 0, 0, 0, 0, 4, 2, 0, 0, 0, 0, 5, 1, 1, 0, 0, 0, 6],
     ];
     for list in lists {
         match shorten(&list, 1, 0, 128, 512) {
             Ok(gates) => {
                 println!("{} gates in, {} out:", list.len() / WIDTH, gates.len() / WIDTH);
-                gates.chunks(WIDTH).for_each(|g| println!("{} {} {} {} {}", g[0], g[1], g[2], g[3], g[4]));
+                gates.chunks(WIDTH).for_each(|g| println!("{} {} {} {} {} {}", g[0], g[1], g[2], g[3], g[4], g[5]));
             }
             Err((number, place, field)) => println!("refused {number} {place} {field}"),
         }
