@@ -60,7 +60,7 @@ uint64_t dilkovan_cnot_min(const int32_t *list, size_t list_length, size_t wires
                            size_t steps_length, uint64_t counts[8]);
 
 /* The bytes that `out` of the functions below must have: the longest answer fits. */
-#define DILKOVAN_LIST_BYTES 32768
+#define DILKOVAN_LIST_BYTES (12 * DILKOVAN_WIDTH * 512 + 256)
 
 /* Shortens the circuit of a list's text, as `./dilkovan list` does.
  *

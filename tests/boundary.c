@@ -283,6 +283,8 @@ static void texts(void) {
     size_t n = repeated(bytes, "23 1023 1022 0 -2147483648", 512);
     sprintf(printed, "%.*scounts 8\n512\n512\n0\n0\n0\n0\n0\n0\n", (int)n, bytes);
     text("512 long lines", bytes, n, 0, printed);
+    text("a replaced block and a copied gate with their lines", "head 5\n1\n0\n1\n1\n6\ngates 3\n2 0 0 0 0 9\n2 0 0 0 0 3\n10 0 0 0 0 7\n", 62, 0,
+         "head 5\n1\n0\n1\n1\n6\ngates 2\n4 0 0 0 0 9\n10 0 0 0 0 7\ncounts 8\n3\n2\n0\n0\n2\n0\n1\n1\n");
     n = repeated(bytes, "2 0 0 0 0", 513);
     text("12: 513 gates", bytes, n, 1, "refused 12 6 0\n");
     /* lines that make 16,384 bytes in all; the gates are looked at when every line was read */
@@ -314,24 +316,24 @@ static size_t statements(char *to, const char *line, int gates) {
 static void laboratories(void) {
     static char bytes[2 * DILKOVAN_LIST_BYTES], printed[2 * DILKOVAN_LIST_BYTES];
     static const char lab[] = OPENING "qreg q[1];\ncreg c[1];\nx q[0];\nt q[0];\nx q[0];\nmeasure q[0] -> c[0];\n";
-    static const char ours[] = "head 4\n1\n1\n128\n512\ngates 4\n1 0 0 0 0\n2 0 0 0 0\n1 0 0 0 0\n27 0 0 0 0\n";
+    static const char ours[] = "head 5\n1\n1\n128\n512\n6\ngates 4\n1 0 0 0 0 5\n2 0 0 0 0 6\n1 0 0 0 0 7\n27 0 0 0 0 8\n";
     static const char swap[] = "head 4\n2\n0\n1\n1\ngates 2\n1 0 0 0 0\n17 0 1 0 0\n";
     call(dilkovan_import, "import", lab, sizeof lab - 1, 0, ours);
     call(dilkovan_export, "export", ours, sizeof ours - 1, 0, lab);
     call(dilkovan_qasm, "qasm", lab, sizeof lab - 1, 0, OPENING "qreg q[1];\ncreg c[1];\ntdg q[0];\nmeasure q[0] -> c[0];\n");
     call(dilkovan_import, "import, without its last byte", lab, sizeof lab - 2, 1, "refused 13 8 0\n");
     call(dilkovan_qasm, "qasm, without its last byte", lab, sizeof lab - 2, 1, "refused 13 8 0\n");
-    call(dilkovan_export, "export, without its last byte", ours, sizeof ours - 2, 1, "refused 11 10 0\n");
+    call(dilkovan_export, "export, without its last byte", ours, sizeof ours - 2, 1, "refused 11 11 0\n");
     call(dilkovan_import, "import, no bytes", lab, 0, 1, "refused 13 1 0\n");
     call(dilkovan_export, "export, no bytes", lab, 0, 1, "refused 11 1 0\n");
     call(dilkovan_qasm, "qasm, no bytes", lab, 0, 1, "refused 13 1 0\n");
     call(dilkovan_export, "export, a swap", swap, sizeof swap - 1, 1, "refused 13 1 0\n");
     /* 512 gates in the longest statements of one number and a turn; 513; and as many bytes as may be, and one more */
-    size_t n = statements(bytes, "rz(-2147483648*pi/4) q[0];", 512), m = repeated(printed, "7 0 0 0 -2147483648", 512);
-    memmove(printed + 9, printed + 12, m - 12 + 1); /* one wire, not 1,024 */
-    printed[7] = '1', printed[8] = '\n';
+    size_t n = statements(bytes, "rz(-2147483648*pi/4) q[0];", 512), m = (size_t)sprintf(printed, "head 5\n1\n0\n128\n512\n6\ngates 512\n");
+    for (int i = 0; i < 512; i++) /* the first statement stands on line 4 */
+        m += (size_t)sprintf(printed + m, "7 0 0 0 -2147483648 %d\n", 4 + i);
     call(dilkovan_import, "import, 512 gates", bytes, n, 0, printed);
-    call(dilkovan_export, "export, 512 gates", printed, m - 3, 0, (bytes[n] = 0, bytes));
+    call(dilkovan_export, "export, 512 gates", printed, m, 0, (bytes[n] = 0, bytes));
     call(dilkovan_qasm, "qasm, 512 gates that are no turn", bytes, n, 0, OPENING "qreg q[1];\n");
     n = statements(bytes, "x q[0];", 513);
     call(dilkovan_import, "import, 513 gates", bytes, n, 1, "refused 12 0 0\n");

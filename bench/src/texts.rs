@@ -2,26 +2,29 @@
 use std::hint::black_box;
 use std::time::Instant;
 
-type Door = unsafe extern "C" fn(*const u8, usize, *mut [u8; 32768], *mut usize) -> u64;
+/// Bytes that the longest answer to a text may have: 512 gates of six numbers, and the other lines.
+const LIST_BYTES: usize = 12 * 6 * 512 + 256;
+
+type Door = unsafe extern "C" fn(*const u8, usize, *mut [u8; LIST_BYTES], *mut usize) -> u64;
 
 unsafe extern "C" {
-    fn dilkovan_list(text: *const u8, text_length: usize, out: *mut [u8; 32768], length: *mut usize) -> u64;
-    fn dilkovan_import(text: *const u8, text_length: usize, out: *mut [u8; 32768], length: *mut usize) -> u64;
-    fn dilkovan_export(text: *const u8, text_length: usize, out: *mut [u8; 32768], length: *mut usize) -> u64;
-    fn dilkovan_qasm(text: *const u8, text_length: usize, out: *mut [u8; 32768], length: *mut usize) -> u64;
+    fn dilkovan_list(text: *const u8, text_length: usize, out: *mut [u8; LIST_BYTES], length: *mut usize) -> u64;
+    fn dilkovan_import(text: *const u8, text_length: usize, out: *mut [u8; LIST_BYTES], length: *mut usize) -> u64;
+    fn dilkovan_export(text: *const u8, text_length: usize, out: *mut [u8; LIST_BYTES], length: *mut usize) -> u64;
+    fn dilkovan_qasm(text: *const u8, text_length: usize, out: *mut [u8; LIST_BYTES], length: *mut usize) -> u64;
 }
 
 const GATES: usize = 512;
 
 fn call(door: Door, text: &str) -> (u64, String) {
-    let (mut out, mut length) = ([0; 32768], 0);
+    let (mut out, mut length) = ([0; LIST_BYTES], 0);
     let refused = unsafe { door(text.as_ptr(), text.len(), &mut out, &mut length) };
     (refused, String::from_utf8_lossy(&out[..length]).into_owned())
 }
 
 /// Microseconds a call, the median of many.
 fn time(door: Door, text: &str) -> f64 {
-    let (mut out, mut length, mut times) = ([0; 32768], 0, Vec::new());
+    let (mut out, mut length, mut times) = ([0; LIST_BYTES], 0, Vec::new());
     for _ in 0..2000 {
         let t = Instant::now();
         black_box(unsafe { door(black_box(text).as_ptr(), text.len(), &mut out, &mut length) });

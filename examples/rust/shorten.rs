@@ -5,17 +5,20 @@ use std::io::Write;
 /// Numbers to a gate.
 const WIDTH: usize = 6;
 
+/// Bytes that the longest answer to a text may have.
+const LIST_BYTES: usize = 12 * WIDTH * 512 + 256;
+
 extern "C" {
     fn dilkovan_cnot_min(
         list: *const i32, list_length: usize, wires: usize, bits: usize, qubit_cap: usize, term_cap: usize,
         out: *mut i32, out_length: usize, terms: *mut u64, terms_length: usize, steps: *mut u32, steps_length: usize,
         counts: *mut [u64; 8],
     ) -> u64;
-    fn dilkovan_list(text: *const u8, text_length: usize, out: *mut [u8; 32768], length: *mut usize) -> u64;
-    fn dilkovan_qasm(text: *const u8, text_length: usize, out: *mut [u8; 32768], length: *mut usize) -> u64;
+    fn dilkovan_list(text: *const u8, text_length: usize, out: *mut [u8; LIST_BYTES], length: *mut usize) -> u64;
+    fn dilkovan_qasm(text: *const u8, text_length: usize, out: *mut [u8; LIST_BYTES], length: *mut usize) -> u64;
 }
 
-type Door = unsafe extern "C" fn(*const u8, usize, *mut [u8; 32768], *mut usize) -> u64;
+type Door = unsafe extern "C" fn(*const u8, usize, *mut [u8; LIST_BYTES], *mut usize) -> u64;
 
 /// The new gates, or the refusal's number, place and field.
 fn shorten(list: &[i32], wires: usize, bits: usize, qubit_cap: usize, term_cap: usize) -> Result<Vec<i32>, (u16, u32, u16)> {
@@ -37,7 +40,7 @@ fn shorten(list: &[i32], wires: usize, bits: usize, qubit_cap: usize, term_cap: 
 
 /// The printed bytes: an answer, or a refusal's line.
 fn answer(door: Door, text: &[u8]) -> Result<Vec<u8>, Vec<u8>> {
-    let (mut out, mut length) = ([0; 32768], 0);
+    let (mut out, mut length) = ([0; LIST_BYTES], 0);
     let refused = unsafe { door(text.as_ptr(), text.len(), &mut out, &mut length) };
     let printed = out[..length].to_vec();
     if refused == 0 { Ok(printed) } else { Err(printed) }
