@@ -1,14 +1,22 @@
 -- What the helpers of the program keep: a case within the program's arrays, and its list within the flow.
 use Prim.Native.Nat.{ℕ, _+_, _*_, _≤_, _<_}
+use Rattle.rules.specs.Limits.{width}
 use Rattle.flow.specs.Flowing.{Held}
 use Rattle.flow.specs.declared.Flow.{Flow}
 use Rattle.batch_main.specs.declared.Case.{Case}
 use Rattle.batch_main.specs.declared.Ready.{Ready}
 
+-- a little more than 8,192 gates, and their numbers
+abbrev pub mostGates : ℕ
+mostGates = 8200
+
+abbrev pub mostNumbers : ℕ
+mostNumbers = width * mostGates
+
 -- the list and the rooms of a case are no longer than the program's own
 pub record Small (c : Case) : Type 0 where
-  pub list-fits : c .list ≤ 41000
-  pub out-fits : c .out ≤ 41000
+  pub list-fits : c .list ≤ mostNumbers
+  pub out-fits : c .out ≤ mostNumbers
   pub terms-fits : c .terms ≤ 74000
   pub steps-fits : c .steps ≤ 17000
 

@@ -19,10 +19,12 @@ ghost use mathlib.Core.Bool.{true};
 ghost use Prim.Native.Nat.{_+_, _*_, _≤_, _<_};
 ghost use lib.ListN.{length};
 ghost use Rattle.flow.specs.Flowing.{Held};
-ghost use Rattle.batch_main.specs.Cases.{Small, Taken};
+ghost use Rattle.batch_main.specs.Cases.{mostGates, mostNumbers, Small, Taken};
 
 // A little more than 8,192 gates, and the rooms that so many need.
-const MOST_NUMBERS: usize = 41000;
+const MOST_GATES: usize = 8200;
+
+const MOST_NUMBERS: usize = GATE_WIDTH * MOST_GATES;
 
 const MOST_TERMS: usize = 74000;
 
@@ -99,7 +101,7 @@ fn tell_done(
     used: usize,
     ask: usize,
 ) -> usize
-    requires { ⌜ g ≤ 8200 ⌝ }
+    requires { ⌜ g ≤ mostGates ⌝ }
     requires { ⌜ (used ≤ length (now output)) × (4 ≤ length (now output)) ⌝ }
     ensures { λ r. ⌜ r ≤ length (now (output .entry)) ⌝ }
 {
@@ -135,7 +137,7 @@ fn tell(
     used: usize,
     ask: usize,
 ) -> usize
-    requires { ⌜ g ≤ 8200 ⌝ }
+    requires { ⌜ g ≤ mostGates ⌝ }
     requires { ⌜ (used ≤ length (now output)) × (4 ≤ length (now output)) ⌝ }
     ensures { λ r. ⌜ r ≤ length (now (output .entry)) ⌝ }
 {
@@ -155,7 +157,7 @@ fn answer(
     output: &mut [u8],
     used: usize,
 ) -> usize
-    requires { ⌜ length (now list) ≤ 41000 ⌝ }
+    requires { ⌜ length (now list) ≤ mostNumbers ⌝ }
     requires { ⌜ (used ≤ length (now output)) × (4 ≤ length (now output)) ⌝ }
     ensures { λ r. ⌜ r ≤ length (now (output .entry)) ⌝ }
 {
@@ -271,7 +273,7 @@ fn solve(
     used: usize,
 ) -> usize
     requires { ⌜ Small c × (4 * c .list ≤ length (now bytes)) ⌝ }
-    requires { ⌜ (41000 ≤ length (now list)) × ((41000 ≤ length (now out)) × ((74000 ≤ length (now terms)) × (17000 ≤ length (now steps)))) ⌝ }
+    requires { ⌜ (mostNumbers ≤ length (now list)) × ((mostNumbers ≤ length (now out)) × ((74000 ≤ length (now terms)) × (17000 ≤ length (now steps)))) ⌝ }
     requires { ⌜ (used ≤ length (now output)) × (4 ≤ length (now output)) ⌝ }
     ensures { λ r. ⌜ r ≤ length (now (output .entry)) ⌝ }
 {
@@ -299,7 +301,7 @@ fn next(
     f: Flow,
 ) -> Flow
     requires { ⌜ Held f (length (now input)) (length (now output)) × (0 < f .left) ⌝ }
-    requires { ⌜ (41000 ≤ length (now list)) × ((41000 ≤ length (now out)) × ((74000 ≤ length (now terms)) × (17000 ≤ length (now steps)))) ⌝ }
+    requires { ⌜ (mostNumbers ≤ length (now list)) × ((mostNumbers ≤ length (now out)) × ((74000 ≤ length (now terms)) × (17000 ≤ length (now steps)))) ⌝ }
     requires { ⌜ 4 ≤ length (now output) ⌝ }
     ensures { λ r. ⌜ Held r (length (now (input .entry))) (length (now (output .entry))) × (r .left < f .left) ⌝ }
 {
@@ -322,10 +324,10 @@ fn next(
 
 fn main() {
     let mut input = [0u8; 262144];
-    let mut list = [0i32; 41000];
-    let mut out = [0i32; 41000];
-    let mut terms = [0u64; 74000];
-    let mut steps = [0u32; 17000];
+    let mut list = [0i32; MOST_NUMBERS];
+    let mut out = [0i32; MOST_NUMBERS];
+    let mut terms = [0u64; MOST_TERMS];
+    let mut steps = [0u32; MOST_STEPS];
     let mut output = [0u8; 65536];
     let mut f = Flow {
         at: 0,
