@@ -3,49 +3,30 @@ use mathlib.Core.Path.{_≡_, refl, ap, _∙_, subst}
 use mathlib.Core.List.{List, [], _∷_}
 use Prim.Native.Nat.{ℕ, zero, suc, _+_, _*_, _/_, _≤_, _<_}
 use native.Mathlib.Omega.{arith}
-use lib.IntN.{ℤ, pos}
+use lib.IntN.{ℤ, pos, negsuc}
 use lib.ListN.{length, getD}
 use lib.Signed.{mag}
 use Rattle.rules.specs.Limits.{width, maxWires, maxBits, termWidth, stepWidth, termEntries, stepEntries}
 use Rattle.rules.specs.Gate.{Gate, second, bitted, third}
-use Rattle.rules.specs.Numbers.{gateAt, gatesFrom, gatesOf, numbersOf}
+use Rattle.rules.specs.Numbers.{natOf, gateAt, gatesOf, numbersOf}
 use Rattle.rules.specs.Refusal.{accepted, faultAt}
 use Rattle.rules.specs.Plan.{planOf}
 use Rattle.rules.specs.Scan.{Result}
 use Rattle.rules.specs.Pass.{pass, writerOf}
-use Rattle.rules.proofs.Bits.{split, same}
+use Rattle.rules.proofs.Bits.{split}
 use Rattle.rules.proofs.Reading.{length-numbers, gates-length, read-written}
 use Rattle.rules.proofs.Accepting.{accepted-is, Fit, fit, SoundAll, accepted-sound}
 use Rattle.rules.proofs.Output.{output-length, output-sound, output-accepted, plan-sound}
 use Rattle.text.specs.Reading.{largest}
 use Rattle.spelling.specs.Texts.{Head}
+use Rattle.spelling.proofs.Forms.{Shown}
 use Rattle.spelling.proofs.Spelling.{Ranged}
 use Rattle.saying.specs.Answer.{exact}
 use Rattle.saying.proofs.Checking.{exact-fits}
-use Rattle.fitting.proofs.Each.{Each, Plain, each-pass}
+use Rattle.fitting.proofs.Each.{Each, Plain, each-pass, each-line, each-gates}
+use Rattle.fitting.proofs.Unsaid.{Hidden, hidden-none, shown-lines, lines-shown}
 
--- ---- gate by gate
-
--- what holds of the gate at each place holds of each gate
-each-from : (P : Gate → Type 0) (ns : List ℤ) (n i : ℕ) → ((j : ℕ) → j < i + n → P (gateAt ns j)) → Each P (gatesFrom ns n i)
-unfolding Each gatesFrom
-each-from P ns zero i h = tt
-each-from P ns (suc n) i h = (h i (omega arith), each-from P ns n (suc i) (λ j k. h j (omega arith)))
-
-pub each-gates : (P : Gate → Type 0) (ns : List ℤ) → ((j : ℕ) → j < length ns / width → P (gateAt ns j)) → Each P (gatesOf ns)
-unfolding gatesOf
-each-gates P ns h = each-from P ns (length ns / width) zero (λ j k. h j (omega arith))
-
-from-each : (P : Gate → Type 0) (ns : List ℤ) (n i : ℕ) → Each P (gatesFrom ns n i) → (j : ℕ) → i ≤ j → j < i + n → P (gateAt ns j)
-unfolding Each gatesFrom
-from-each P ns zero i e j h k = absurd (omega arith)
-from-each P ns (suc n) i e j h k = same i j (λ x q. subst (λ (m : ℕ). P (gateAt ns m)) x (e .0)) (λ x q. from-each P ns n (suc i) (e .1) j (omega (arith, x)) (omega arith))
-
-pub gates-each : (P : Gate → Type 0) (ns : List ℤ) → Each P (gatesOf ns) → (j : ℕ) → j < length ns / width → P (gateAt ns j)
-unfolding gatesOf
-gates-each P ns e j h = from-each P ns (length ns / width) zero e j (omega arith) (omega arith)
-
--- ---- every turn fits 32 signed bits: the pass makes none of its own
+-- ---- every turn and every line fits 32 signed bits: the pass makes none of its own
 
 abbrev pub Short : Gate → Type 0
 Short g = mag (g .turn) ≤ largest
@@ -60,6 +41,18 @@ short-gates : (ns : List ℤ) → Ranged ns → Each Short (gatesOf ns)
 unfolding gateAt
 short-gates ns h = each-gates Short ns (λ j k. ranged-at ns h (width * j + 4))
 
+-- and every line: each is that of a gate in
+abbrev pub Near : Gate → Type 0
+Near g = g .line ≤ largest
+
+nat-small : (v : ℤ) → mag v ≤ largest → natOf v ≤ largest
+nat-small (pos n) h = h
+nat-small (negsuc n) h = omega arith
+
+near-gates : (ns : List ℤ) → Ranged ns → Each Near (gatesOf ns)
+unfolding gateAt
+near-gates ns h = each-gates Near ns (λ j k. nat-small (getD ns (width * j + 5) (pos 0)) (ranged-at ns h (width * j + 5)))
+
 short-plain : (g : Gate) → Plain g → Short g
 short-plain g p = rw (p .turnless) (omega arith)
 
@@ -73,17 +66,17 @@ second-small w b c x y z t hw hb f =
 third-small : (w b c x y z : ℕ) (t : ℤ) → w ≤ maxWires → Fit w b c x y z t → z ≤ largest
 third-small w b c x y z t hw f = split (third c) (λ e. omega (arith, f .third-in e)) (λ e. omega (arith, f .no-third e))
 
-ranged-numbers : (w b : ℕ) (gs : List Gate) → w ≤ maxWires → b ≤ maxBits → SoundAll w b gs → Each Short gs → Ranged (numbersOf gs)
+ranged-numbers : (w b : ℕ) (gs : List Gate) → w ≤ maxWires → b ≤ maxBits → SoundAll w b gs → Each Short gs → Each Near gs → Ranged (numbersOf gs)
 unfolding Ranged SoundAll Each numbersOf
-ranged-numbers w b [] hw hb s h = tt
-ranged-numbers w b (g ∷ gs) hw hb s h =
-    let f : Fit w b (g .code) (g .first) (g .second) (g .third) (g .turn) = fit w b (pos (g .code)) (pos (g .first)) (pos (g .second)) (pos (g .third)) (g .turn) (s .0) in (
+ranged-numbers w b [] hw hb s h k = tt
+ranged-numbers w b (g ∷ gs) hw hb s h k =
+    let f : Fit w b (g .code) (g .first) (g .second) (g .third) (g .turn) = fit w b (pos (g .code)) (pos (g .first)) (pos (g .second)) (pos (g .third)) (g .turn) (pos (g .line)) (s .0) in (
       omega (arith, f .most),
       (
         omega (arith, f .first-in),
         (
           second-small w b (g .code) (g .first) (g .second) (g .third) (g .turn) hw hb f,
-          (third-small w b (g .code) (g .first) (g .second) (g .third) (g .turn) hw f, (h .0, ranged-numbers w b gs hw hb (s .1) (h .1))),
+          (third-small w b (g .code) (g .first) (g .second) (g .third) (g .turn) hw f, (h .0, (k .0, ranged-numbers w b gs hw hb (s .1) (h .1) (k .1)))),
         ),
       ),
     )
@@ -115,7 +108,12 @@ module _ (h : Head) (ns : List ℤ) (e : exact h ns ≡ accepted) where
   pub made-ranged : Ranged ns → Ranged (numbersOf (new .gates))
   made-ranged r =
       ranged-numbers (h .wires) (h .bits) (new .gates) (exact-fits h ns e .wires) (exact-fits h ns e .bits) made-sound
-      (each-pass Short short-plain (h .qubits) (h .terms) (gatesOf ns) (short-gates ns r))
+      (each-pass Short short-plain (λ n g k. k) (h .qubits) (h .terms) (gatesOf ns) (short-gates ns r))
+      (each-line (λ n. n ≤ largest) (omega arith) (h .qubits) (h .terms) (gatesOf ns) (near-gates ns r))
+
+  -- what the form doesn't show is 0 as it was
+  pub made-shown : Shown (h .form) (length ns / width) ns → Shown (h .form) (length (new .gates)) (numbersOf (new .gates))
+  made-shown s = lines-shown (h .form) (new .gates) (each-line (Hidden (h .form)) (hidden-none (h .form)) (h .qubits) (h .terms) (gatesOf ns) (shown-lines (h .form) ns s))
 
   pub same-result : record { gates = gatesOf (numbersOf (new .gates)); blocks = new .blocks; replaced = new .replaced } ≡ new
   same-result = ap (λ (us : List Gate). record { gates = us; blocks = new .blocks; replaced = new .replaced }) (read-written (new .gates))
