@@ -10,7 +10,7 @@ use Rattle.rules.specs.Bit.{xor}
 use Rattle.text.specs.Bytes.{bytes, lf, first}
 use Rattle.text.specs.Reading.{word, ended, naturalLine, countLine}
 use Rattle.spelling.specs.Sizes.{listBytes}
-use Rattle.spelling.specs.Reading.{headAt, row, rows, readText}
+use Rattle.spelling.specs.Reading.{headAt, rows, readText}
 use Rattle.saying.specs.Answer.{exact}
 use Rattle.list.specs.Answer.{answer}
 
@@ -34,6 +34,13 @@ one text prints = record { text = bytes "head 4\n1\n0\n128\n512\ngates 1\n" ++ b
 abbrev pub two : String → String → Case
 two text prints = record { text = bytes "head 4\n2\n1\n128\n512\ngates 1\n" ++ bytes text; prints = bytes prints }
 
+-- `head 5` with 5 and with 6, and what follows its fifth number
+abbrev pub fives : String → String → Case
+fives text prints = record { text = bytes "head 5\n1\n0\n128\n512\n5\n" ++ bytes text; prints = bytes prints }
+
+abbrev pub sixes : String → String → Case
+sixes text prints = record { text = bytes "head 5\n1\n0\n128\n512\n6\n" ++ bytes text; prints = bytes prints }
+
 abbrev pub cases : List Case
 cases =
     -- document 01's list
@@ -47,7 +54,8 @@ cases =
     -- a text that is empty, ends early, or has another head
     ∷ plain "" "refused 11 1 0\n"
     ∷ plain "head 4" "refused 11 1 0\n"
-    ∷ plain "head 5\n1\n0\n128\n512\ngates 0\n" "refused 11 1 0\n"
+    ∷ plain "head 6\n1\n0\n128\n512\n6\n6\ngates 0\n" "refused 11 1 0\n"
+    ∷ plain "head 04\n1\n0\n128\n512\ngates 0\n" "refused 11 1 0\n"
     ∷ plain "head 4\n1\n0\n" "refused 11 4 0\n"
     ∷ plain "head 4\n1\n0\n128\n2147483648\ngates 0\n" "refused 11 5 0\n"
     ∷ behind "" "refused 11 6 0\n"
@@ -78,7 +86,7 @@ cases =
     -- both ends of a turn
     ∷ one "7 0 0 0 -2147483648\n" "head 4\n1\n0\n128\n512\ngates 0\ncounts 8\n1\n0\n0\n0\n0\n0\n1\n1\n"
     ∷ one "14 0 0 0 2147483647\n" "head 4\n1\n0\n128\n512\ngates 1\n14 0 0 0 2147483647\ncounts 8\n1\n1\n0\n0\n1\n1\n0\n0\n"
-    -- after all lines, 3, and then 6 to 9 and 14 with the gate's index
+    -- after all lines, 3, and then 6 to 9, 14 and 18 with the gate's index
     ∷ plain "head 4\n1025\n0\n128\n512\ngates 1\n0 0 0 0 0\n" "refused 3 0 0\n"
     ∷ one "28 0 0 0 0\n" "refused 6 0 0\n"
     ∷ one "2 0 1 0 0\n" "refused 7 0 0\n"
@@ -95,16 +103,46 @@ cases =
     ∷ one "8 5 5 1 0\n" "refused 7 0 0\n"
     ∷ two "8 1 1 0 0\n" "refused 9 0 0\n"
     ∷ two "24 1 1 2 0\n" "refused 8 0 3\n"
+    -- the head as read, and as many numbers a gate as it says
+    ∷ one "10 0 0 0 0\n" "head 4\n1\n0\n128\n512\ngates 1\n10 0 0 0 0\ncounts 8\n1\n1\n0\n0\n0\n0\n0\n0\n"
+    ∷ fives "gates 1\n10 0 0 0 0\n" "head 5\n1\n0\n128\n512\n5\ngates 1\n10 0 0 0 0\ncounts 8\n1\n1\n0\n0\n0\n0\n0\n0\n"
+    ∷ fives "gates 2\n2 0 0 0 0\n2 0 0 0 0\n" "head 5\n1\n0\n128\n512\n5\ngates 1\n4 0 0 0 0\ncounts 8\n2\n1\n0\n0\n2\n0\n1\n1\n"
+    ∷ sixes "gates 1\n10 0 0 0 0 2147483647\n" "head 5\n1\n0\n128\n512\n6\ngates 1\n10 0 0 0 0 2147483647\ncounts 8\n1\n1\n0\n0\n0\n0\n0\n0\n"
+    ∷ one "10 0 0 0 0 1\n" "refused 11 7 0\n"
+    ∷ fives "gates 1\n10 0 0 0 0 1\n" "refused 11 8 0\n"
+    ∷ sixes "gates 1\n10 0 0 0 0\n" "refused 11 8 0\n"
+    ∷ sixes "gates 1\n10 0 0 0 0 2147483648\n" "refused 11 8 0\n"
+    ∷ sixes "gates 1\n10 0 0 0 0 -0\n" "refused 11 8 0\n"
+    -- the fifth number is 5 or 6, before `gates` is looked at, which stands on line 7
+    ∷ plain "head 5\n1\n0\n128\n512\n7\ngates 999\n" "refused 11 6 0\n"
+    ∷ plain "head 5\n1\n0\n128\n512\n4\ngates 0\n" "refused 11 6 0\n"
+    ∷ plain "head 5\n1\n0\n128\n512\n-6\ngates 0\n" "refused 11 6 0\n"
+    ∷ plain "head 5\n1\n0\n128\n512\n2147483648\ngates 0\n" "refused 11 6 0\n"
+    ∷ plain "head 5\n1\n0\n128\n512\ngates 0\n" "refused 11 6 0\n"
+    ∷ plain "head 5\n1\n0\n128\n512\n" "refused 11 6 0\n"
+    ∷ behind "6\ngates 0\n" "refused 11 6 0\n"
+    ∷ fives "gates 513\n" "refused 12 7 0\n"
+    ∷ sixes "gates 513\n" "refused 12 7 0\n"
+    ∷ sixes "" "refused 11 7 0\n"
+    -- a negative line is 18, last within its gate
+    ∷ sixes "gates 1\n10 0 0 0 0 -1\n" "refused 18 0 0\n"
+    ∷ plain "head 5\n2\n0\n128\n512\n6\ngates 1\n8 1 1 0 0 -1\n" "refused 9 0 0\n"
+    ∷ sixes "gates 2\n1 0 0 0 0 -1\n0 0 0 0 0 0\n" "refused 18 0 0\n"
+    -- a replaced block takes the line of its first gate in list order; gates outside a block keep theirs
+    ∷ plain "head 5\n2\n0\n128\n512\n6\ngates 3\n8 0 1 0 0 9\n2 0 0 0 0 3\n2 0 0 0 0 0\n"
+    "head 5\n2\n0\n128\n512\n6\ngates 2\n4 0 0 0 0 9\n8 0 1 0 0 9\ncounts 8\n3\n2\n1\n1\n2\n0\n1\n1\n"
+    ∷ plain "head 5\n2\n0\n1\n512\n6\ngates 3\n2 0 0 0 0 9\n2 0 0 0 0 8\n8 0 1 0 0 7\n"
+    "head 5\n2\n0\n1\n512\n6\ngates 2\n4 0 0 0 0 9\n8 0 1 0 0 7\ncounts 8\n3\n2\n1\n1\n2\n0\n1\n1\n"
     -- the longest text is read; one byte more is not
     ∷ record { text = replicate listBytes lf; prints = bytes "refused 11 1 0\n" }
     ∷ record { text = replicate (listBytes + 1) lf; prints = bytes "refused 10 0 0\n" }
     ∷ []
 
 pub worked : map (λ (c : Case). answer (c .text) .text) cases ≡ map (λ (c : Case). c .prints) cases
-unfolding answer exact readText headAt row rows word ended naturalLine countLine xor
+unfolding answer exact readText headAt rows word ended naturalLine countLine xor
 worked = refl
 
 -- what begins with an r is a refusal
 pub refusals : map (λ (c : Case). answer (c .text) .refused) cases ≡ map (λ (c : Case). eqb (first (c .prints)) (code "r")) cases
-unfolding answer exact readText headAt row rows word ended naturalLine countLine xor
+unfolding answer exact readText headAt rows word ended naturalLine countLine xor
 refusals = refl

@@ -7,6 +7,7 @@ use native.Mathlib.Omega.{arith}
 use lib.Dec.{ltb}
 use lib.IntN.{ℤ}
 use lib.ListN.{length}
+use Rattle.rules.specs.Limits.{width}
 use Rattle.rules.specs.Gate.{Gate}
 use Rattle.rules.specs.Numbers.{gatesOf, numbersOf}
 use Rattle.rules.specs.Refusal.{Verdict, accepted, refused}
@@ -24,9 +25,12 @@ use Rattle.saying.specs.Contracts.{Says}
 use Rattle.saying.specs.declared.Said.{Said}
 use Rattle.saying.proofs.Saying.{says-shown}
 use Rattle.saying.proofs.Taking.{answer-kept}
-use Rattle.fitting.proofs.Made.{made-few, made-ranged, same-result}
+use Rattle.fitting.proofs.Made.{made-few, made-ranged, made-shown, same-result}
 use Rattle.list.specs.Answer.{shortened, answer}
 use Rattle.list.specs.Contracts.{Kept, Lists}
+
+gates-counted : (gs : List Gate) → length (numbersOf gs) / width ≡ length gs
+gates-counted gs = omega (arith, length-numbers gs)
 
 -- ---- a list that was accepted
 
@@ -37,6 +41,7 @@ module _ (text : List ℕ) (h : Head) (ns : List ℤ) (is : readText listGates t
   abbrev new : Result
   new = pass (h .qubits) (h .terms) gs
 
+  -- the new list, in the form of the old one
   made-listed : exact h ns ≡ accepted → Listed listGates h (numbersOf (new .gates))
   made-listed e =
       let l = text-read listGates h ns text is .1 in
@@ -51,6 +56,7 @@ module _ (text : List ℕ) (h : Head) (ns : List ℤ) (is : readText listGates t
         few = omega (arith, l .few);
         count = omega (arith, l .count);
         each = made-ranged h ns e (l .each);
+        shown = rw (gates-counted (new .gates)) (made-shown h ns e (l .shown));
       }
 
   accepted-kept : exact h ns ≡ accepted → Kept text (shortened h ns .text)

@@ -18,7 +18,7 @@ use Rattle.saying.specs.declared.Said.{Said}
 use Rattle.list.specs.Answer.{countNumbers, answer}
 
 -- demand 3, of the gates that are printed. The text reads as a head and some gates' numbers; what is printed is a list's text and a section of
--- counts; that list's text reads as the same head and other gates' numbers; and the gates that are printed stand to those that were read as
+-- counts; that list's text reads as the same head, and so in the same form, and other gates' numbers; and the gates that are printed stand to those that were read as
 -- demand 3 says, and spend no more T. The counts are theirs
 pub record Kept (text printed : List ℕ) : Type 0 where
   pub head : Head
@@ -28,9 +28,9 @@ pub record Kept (text printed : List ℕ) : Type 0 where
   pub counts : Paper.Counts
   pub reads : readText listGates text ≡ read head old
   pub parts : printed ≡ list ++ sectionText countsWord (countNumbers counts)
-  -- wrong: a blank behind a gate's last number; the count of the list that was read; caps printed as they were clamped
+  -- wrong: a blank behind a gate's last number; the count of the list that was read; caps printed as they were clamped; six numbers a gate after a 5
   pub reads-back : readText listGates list ≡ read head new
-  -- wrong: an x lost; a dearer writing kept; a block that ties replaced
+  -- wrong: an x lost; a dearer writing kept; a block that ties replaced; the line of a block's last gate
   pub promised : let p = planOf (head .qubits) (head .terms) in Promised (writerOf p) p (gatesOf old) (record { gates = gatesOf new; blocks = counts .blocks; replaced = counts .replaced })
   -- wrong: T as document 01 counted it, by t and tdg alone; T in and out exchanged
   pub spent : counts .tOut ≤ counts .tIn
