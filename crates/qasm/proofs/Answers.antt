@@ -36,24 +36,26 @@ module _ (wires bits count most : ℕ) where
 
 -- ---- a row
 
--- five numbers, one by one
-five : (row : List ℤ) → length row ≡ width → row ≡ getD row 0 (pos 0) ∷ getD row 1 (pos 0) ∷ getD row 2 (pos 0) ∷ getD row 3 (pos 0) ∷ getD row 4 (pos 0) ∷ []
-five [] h = absurd (omega arith)
-five (a ∷ []) h = absurd (omega arith)
-five (a ∷ b ∷ []) h = absurd (omega arith)
-five (a ∷ b ∷ c ∷ []) h = absurd (omega arith)
-five (a ∷ b ∷ c ∷ d ∷ []) h = absurd (omega arith)
-five (a ∷ b ∷ c ∷ d ∷ e ∷ []) h = refl
-five (a ∷ b ∷ c ∷ d ∷ e ∷ f ∷ l) h = absurd (omega arith)
+-- six numbers, one by one
+six : (row : List ℤ) → length row ≡ width → row ≡ getD row 0 (pos 0) ∷ getD row 1 (pos 0) ∷ getD row 2 (pos 0) ∷ getD row 3 (pos 0) ∷ getD row 4 (pos 0) ∷ getD row 5 (pos 0) ∷ []
+six [] h = absurd (omega arith)
+six (a ∷ []) h = absurd (omega arith)
+six (a ∷ b ∷ []) h = absurd (omega arith)
+six (a ∷ b ∷ c ∷ []) h = absurd (omega arith)
+six (a ∷ b ∷ c ∷ d ∷ []) h = absurd (omega arith)
+six (a ∷ b ∷ c ∷ d ∷ e ∷ []) h = absurd (omega arith)
+six (a ∷ b ∷ c ∷ d ∷ e ∷ f ∷ []) h = refl
+six (a ∷ b ∷ c ∷ d ∷ e ∷ f ∷ g ∷ l) h = absurd (omega arith)
 
-pub row-bare : (row : List ℤ) (v : ℤ) (c : ℕ) → length row ≡ width → v ≡ pos c → set (set (set (set (set row 0 v) 1 (pos 0)) 2 (pos 0)) 3 (pos 0)) 4 (pos 0) ≡ bare c
-row-bare row v c h e = rw (five row h, e)
+pub row-bare : (row : List ℤ) (v : ℤ) (c : ℕ) → length row ≡ width → v ≡ pos c → set (set (set (set (set (set row 0 v) 1 (pos 0)) 2 (pos 0)) 3 (pos 0)) 4 (pos 0)) 5 (pos 0) ≡ bare c
+row-bare row v c h e = rw (six row h, e)
 
 pub row-kept : (room : List ℤ) (at : ℕ) (row : List ℤ) → length row ≡ width → at + width ≤ length room
-    → set (set (set (set (set room at (getD row 0 (pos 0))) (at + 1) (getD row 1 (pos 0))) (at + 2) (getD row 2 (pos 0))) (at + 3) (getD row 3 (pos 0))) (at + 4) (getD row 4 (pos 0)) ≡ pasted room at row
+    → set (set (set (set (set (set room at (getD row 0 (pos 0))) (at + 1) (getD row 1 (pos 0))) (at + 2) (getD row 2 (pos 0))) (at + 3) (getD row 3 (pos 0))) (at + 4) (getD row 4 (pos 0))) (at + 5) (getD row 5 (pos 0)) ≡ pasted room at row
 row-kept room at row h fits =
     let a : at + 1 ≡ suc at = omega arith in
     let b : at + 2 ≡ suc (suc at) = omega arith in
     let c : at + 3 ≡ suc (suc (suc at)) = omega arith in
     let d : at + 4 ≡ suc (suc (suc (suc at))) = omega arith in
-    rw (a, b, c, d) (ap (sets room at) (sym (five row h)) ∙ sets-eq row room at (omega arith))
+    let e : at + 5 ≡ suc (suc (suc (suc (suc at)))) = omega arith in
+    rw (a, b, c, d, e) (ap (sets room at) (sym (six row h)) ∙ sets-eq row room at (omega arith))

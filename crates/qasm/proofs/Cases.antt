@@ -50,24 +50,24 @@ statements : map behind (
 unfolding readQasm word integer faultAt fieldOf spelled
 statements = refl
 
--- a turn is kept as it stands, at both ends too; a bit and a wire of the same number; a third gate is one too many, and a wrong line wins over it
+-- each gate has its statement's line, the opening counted; a turn is kept as it stands, at both ends too; a bit and a wire of the same number; a third gate is one too many, and a wrong line wins over it
 gates : map behind (
     "qreg q[1];\nrz(1*pi/4) q[0];\nrz(-9*pi/4) q[0];\n" ∷ "qreg q[1];\nrz(-2147483648*pi/4) q[0];\n" ∷ "qreg q[1];\ncreg c[1];\nmeasure q[0] -> c[0];\nreset q[0];\n"
     ∷ "qreg q[3];\nccx q[2],q[0],q[1];\ncz q[1],q[0];\n" ∷ "qreg q[1];\nx q[0];\nx q[0];\nx q[0];\n" ∷ "qreg q[1];\nx q[0];\nx q[0];\nx q[0];\ny\n" ∷ "qreg q[1025];\nx q[0];\nx q[0];\nx q[0];\n" ∷ [])
-    ≡ list 1 0 (pos 7 ∷ pos 0 ∷ pos 0 ∷ pos 0 ∷ pos 1 ∷ pos 7 ∷ pos 0 ∷ pos 0 ∷ pos 0 ∷ negsuc 8 ∷ [])
-    ∷ list 1 0 (pos 7 ∷ pos 0 ∷ pos 0 ∷ pos 0 ∷ negsuc 2147483647 ∷ [])
-    ∷ list 1 1 (pos 27 ∷ pos 0 ∷ pos 0 ∷ pos 0 ∷ pos 0 ∷ pos 13 ∷ pos 0 ∷ pos 0 ∷ pos 0 ∷ pos 0 ∷ [])
-    ∷ list 3 0 (pos 24 ∷ pos 2 ∷ pos 0 ∷ pos 1 ∷ pos 0 ∷ pos 9 ∷ pos 1 ∷ pos 0 ∷ pos 0 ∷ pos 0 ∷ [])
+    ≡ list 1 0 (pos 7 ∷ pos 0 ∷ pos 0 ∷ pos 0 ∷ pos 1 ∷ pos 4 ∷ pos 7 ∷ pos 0 ∷ pos 0 ∷ pos 0 ∷ negsuc 8 ∷ pos 5 ∷ [])
+    ∷ list 1 0 (pos 7 ∷ pos 0 ∷ pos 0 ∷ pos 0 ∷ negsuc 2147483647 ∷ pos 4 ∷ [])
+    ∷ list 1 1 (pos 27 ∷ pos 0 ∷ pos 0 ∷ pos 0 ∷ pos 0 ∷ pos 5 ∷ pos 13 ∷ pos 0 ∷ pos 0 ∷ pos 0 ∷ pos 0 ∷ pos 6 ∷ [])
+    ∷ list 3 0 (pos 24 ∷ pos 2 ∷ pos 0 ∷ pos 1 ∷ pos 0 ∷ pos 4 ∷ pos 9 ∷ pos 1 ∷ pos 0 ∷ pos 0 ∷ pos 0 ∷ pos 5 ∷ [])
     ∷ many ∷ wrong 7 ∷ many ∷ []
 unfolding readQasm word integer faultAt fieldOf spelled
 gates = refl
 
--- every spelling, and the codes that have none
+-- every spelling, whatever the line; and the codes that have none
 spelt : qasmText 3 1 (
-    pos 1 ∷ pos 0 ∷ pos 0 ∷ pos 0 ∷ pos 0 ∷ pos 2 ∷ pos 0 ∷ pos 0 ∷ pos 0 ∷ pos 0 ∷ pos 3 ∷ pos 0 ∷ pos 0 ∷ pos 0 ∷ pos 0 ∷ pos 4 ∷ pos 0 ∷ pos 0 ∷ pos 0 ∷ pos 0
-    ∷ pos 5 ∷ pos 0 ∷ pos 0 ∷ pos 0 ∷ pos 0 ∷ pos 6 ∷ pos 0 ∷ pos 0 ∷ pos 0 ∷ pos 0 ∷ pos 7 ∷ pos 0 ∷ pos 0 ∷ pos 0 ∷ negsuc 2 ∷ pos 8 ∷ pos 0 ∷ pos 1 ∷ pos 0 ∷ pos 0
-    ∷ pos 9 ∷ pos 0 ∷ pos 1 ∷ pos 0 ∷ pos 0 ∷ pos 10 ∷ pos 0 ∷ pos 0 ∷ pos 0 ∷ pos 0 ∷ pos 11 ∷ pos 0 ∷ pos 0 ∷ pos 0 ∷ pos 0 ∷ pos 13 ∷ pos 0 ∷ pos 0 ∷ pos 0 ∷ pos 0
-    ∷ pos 24 ∷ pos 0 ∷ pos 1 ∷ pos 2 ∷ pos 0 ∷ pos 27 ∷ pos 2 ∷ pos 0 ∷ pos 0 ∷ pos 0 ∷ [])
+    pos 1 ∷ pos 0 ∷ pos 0 ∷ pos 0 ∷ pos 0 ∷ pos 77 ∷ pos 2 ∷ pos 0 ∷ pos 0 ∷ pos 0 ∷ pos 0 ∷ pos 2147483647 ∷ pos 3 ∷ pos 0 ∷ pos 0 ∷ pos 0 ∷ pos 0 ∷ pos 0 ∷ pos 4 ∷ pos 0 ∷ pos 0 ∷ pos 0 ∷ pos 0 ∷ pos 0
+    ∷ pos 5 ∷ pos 0 ∷ pos 0 ∷ pos 0 ∷ pos 0 ∷ pos 0 ∷ pos 6 ∷ pos 0 ∷ pos 0 ∷ pos 0 ∷ pos 0 ∷ pos 0 ∷ pos 7 ∷ pos 0 ∷ pos 0 ∷ pos 0 ∷ negsuc 2 ∷ pos 0 ∷ pos 8 ∷ pos 0 ∷ pos 1 ∷ pos 0 ∷ pos 0 ∷ pos 0
+    ∷ pos 9 ∷ pos 0 ∷ pos 1 ∷ pos 0 ∷ pos 0 ∷ pos 0 ∷ pos 10 ∷ pos 0 ∷ pos 0 ∷ pos 0 ∷ pos 0 ∷ pos 0 ∷ pos 11 ∷ pos 0 ∷ pos 0 ∷ pos 0 ∷ pos 0 ∷ pos 0 ∷ pos 13 ∷ pos 0 ∷ pos 0 ∷ pos 0 ∷ pos 0 ∷ pos 0
+    ∷ pos 24 ∷ pos 0 ∷ pos 1 ∷ pos 2 ∷ pos 0 ∷ pos 0 ∷ pos 27 ∷ pos 2 ∷ pos 0 ∷ pos 0 ∷ pos 0 ∷ pos 0 ∷ [])
     ≡ versionLine ++ (includeLine ++ bytes "qreg q[3];\ncreg c[1];\nx q[0];\nt q[0];\ntdg q[0];\ns q[0];\nsdg q[0];\nz q[0];\nrz(-3*pi/4) q[0];\ncx q[0],q[1];\ncz q[0],q[1];\nh q[0];\ny q[0];\nreset q[0];\nccx q[0],q[1],q[2];\nmeasure q[2] -> c[0];\n")
 unfolding qasmText printed fieldOf template
 spelt = refl
@@ -82,6 +82,6 @@ bare-texts : qasmText 0 0 [] ∷ qasmText 0 2 [] ∷ [] ≡ (versionLine ++ incl
 unfolding qasmText printed fieldOf
 bare-texts = refl
 
-others : unspelled (pos 1 ∷ pos 0 ∷ pos 0 ∷ pos 0 ∷ pos 0 ∷ pos 17 ∷ pos 0 ∷ pos 1 ∷ pos 0 ∷ pos 0 ∷ []) ∷ unspelled (pos 1 ∷ pos 0 ∷ pos 0 ∷ pos 0 ∷ pos 0 ∷ []) ∷ [] ≡ 1 ∷ 1 ∷ []
+others : unspelled (pos 1 ∷ pos 0 ∷ pos 0 ∷ pos 0 ∷ pos 0 ∷ pos 3 ∷ pos 17 ∷ pos 0 ∷ pos 1 ∷ pos 0 ∷ pos 0 ∷ pos 4 ∷ []) ∷ unspelled (pos 1 ∷ pos 0 ∷ pos 0 ∷ pos 0 ∷ pos 0 ∷ pos 3 ∷ []) ∷ [] ≡ 1 ∷ 1 ∷ []
 unfolding unspelled spelled
 others = refl

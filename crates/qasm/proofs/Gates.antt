@@ -54,7 +54,7 @@ row-field ns i k h = getD-take width (drop (width * i) ns) k (pos 0) h ∙ getD-
 
 pub row-fault : (ns : List ℤ) (w b i : ℕ) → faultAt (rowAt ns i) w b 0 ≡ faultAt ns w b i
 unfolding faultAt
-row-fault ns w b i = rw (row-field ns i 0 (omega arith), row-field ns i 1 (omega arith), row-field ns i 2 (omega arith), row-field ns i 3 (omega arith), row-field ns i 4 (omega arith))
+row-fault ns w b i = rw (row-field ns i 0 (omega arith), row-field ns i 1 (omega arith), row-field ns i 2 (omega arith), row-field ns i 3 (omega arith), row-field ns i 4 (omega arith), row-field ns i 5 (omega arith))
 
 pub row-code : (ns : List ℤ) (i : ℕ) → codeOf (rowAt ns i) ≡ natOf (field ns i 0)
 row-code ns i = ap natOf (row-field ns i 0 (omega arith))

@@ -7,8 +7,8 @@ use native.Mathlib.Nat.{zero-add, sub-zero}
 use native.Mathlib.Omega.{arith}
 use borrow.Author.Tests.{ltb-true, ltb-false}
 use lib.Dec.{ltb}
-use lib.IntN.{ℤ}
-use lib.ListN.{length, take, drop, length-append, length-take}
+use lib.IntN.{ℤ, pos}
+use lib.ListN.{length, take, drop, length-set, length-append, length-take}
 use lib.Seq.{take-nil, take-all, take-at, take-append-add}
 use Rattle.rules.specs.Limits.{width}
 use Rattle.rules.specs.Pass.{over}
@@ -18,7 +18,7 @@ use Rattle.text.specs.Reading.{found, none}
 use Rattle.text.proofs.Pasting.{pasted-none, pasted-both}
 use Rattle.spelling.specs.Lines.{bad, good}
 use Rattle.spelling.specs.Reading.{Rows}
-use Rattle.qasm.specs.Statement.{statement}
+use Rattle.qasm.specs.Statement.{onLine, statement}
 use Rattle.qasm.specs.Import.{Registers, opening, body, gathered, readQasm}
 use Rattle.qasm.specs.Contracts.{ReadsBody, ReadsQasm, Judges, met}
 use Rattle.qasm.specs.declared.Imported.{Imported}
@@ -61,14 +61,16 @@ goes-first whole most room = record { behind = refl; size = omega arith; kept = 
 
 pub goes-more : (whole : Rows) (most : ℕ) (room now now′ : List ℤ) (i f w b k : ℕ) (bs : List ℕ) (row : List ℤ) (rest : List ℕ)
     → Goes whole (body (suc f) w b k bs) most room now i → 1 ≤ length bs → statement w b bs ≡ found row rest → length row ≡ width → width * most ≤ length now
-    → now′ ≡ cond (ltb i most) (pasted now (width * i) row) now → Goes whole (body f w b (suc k) rest) most room now′ (i + 1)
+    → now′ ≡ cond (ltb i most) (pasted now (width * i) (onLine k row)) now → Goes whole (body f w b (suc k) rest) most room now′ (i + 1)
 goes-more whole most room now now′ i f w b k bs row rest g h e size fits is =
     let once = body-once f w b k bs h row rest e in
     let others : List ℤ = body f w b (suc k) rest .numbers in
+    let lined : List ℤ = onLine k row in
+    let long : length lined ≡ width = length-set row 5 (pos k) ∙ size in
     record {
       behind = sym (ap (λ (r : Rows). r .behind) once) ∙ g .behind;
-      size = omega (arith, g .size, ap (λ (r : Rows). length (r .numbers)) once, length-append row others);
-      kept = kept-once now now′ row others i most size fits is ∙ sym (ap (λ (r : Rows). pasted now (width * i) (left most i (r .numbers))) once) ∙ g .kept;
+      size = omega (arith, g .size, ap (λ (r : Rows). length (r .numbers)) once, length-append lined others);
+      kept = kept-once now now′ lined others i most long fits is ∙ sym (ap (λ (r : Rows). pasted now (width * i) (left most i (r .numbers))) once) ∙ g .kept;
     }
 
 -- what stands from place 0 on stands first

@@ -19,7 +19,7 @@ use Rattle.spelling.proofs.Spelling.{Ranged, line-goes}
 use Rattle.qasm.specs.Table.{templates, template, spelled, fieldOf}
 use Rattle.qasm.specs.Statement.{spellBy, readBy, statementText, bare}
 use Rattle.qasm.specs.Import.{versionLine, includeLine, wiresLine, bitsLine, register, perhaps, Registers, opening}
-use Rattle.qasm.specs.Export.{sized, registerText, statementsText, openingText}
+use Rattle.qasm.specs.Export.{sized, registerText, statementsText, openingText, past, firstLine}
 use Rattle.qasm.proofs.Templates.{sound, plain, filled, ranged-at, read-self, read-spelled, by-read, apart, apart-none}
 use Rattle.qasm.proofs.Codes.{against, apart-first}
 use Rattle.qasm.proofs.Statements.{codeOf, bare-ranged}
@@ -50,7 +50,7 @@ wires-bits = refl
 
 ranged-sized : (n : ℕ) → n ≤ largest → Ranged (sized n)
 unfolding Ranged
-ranged-sized n h = (omega arith, (h, (omega arith, (omega arith, (omega arith, tt)))))
+ranged-sized n h = (omega arith, (h, (omega arith, (omega arith, (omega arith, (omega arith, tt))))))
 
 pub read-register : (t : List ℕ) (n : ℕ) (rest : List ℕ) → Sizing t → 1 ≤ n → n ≤ largest → register t (spellBy t (sized n) ++ rest) ≡ found n rest
 unfolding register
@@ -115,10 +115,6 @@ not-bits b n g w ns e =
 
 -- ---- both registers
 
--- the line behind a register
-abbrev pub past : ℕ → ℕ → ℕ
-past k n = cond (eqb n 0) k (suc k)
-
 perhaps-reads : {B : Type 0} (k : ℕ) (t : List ℕ) (n : ℕ) (rest : List ℕ) (next : ℕ → ℕ → List ℕ → B) → Sizing t → n ≤ largest → (n ≡ 0 → register t rest ≡ none)
     → perhaps k (register t (registerText t n ++ rest)) (registerText t n ++ rest) next ≡ next n (past k n) rest
 unfolding registerText
@@ -140,7 +136,7 @@ opening-parts w b rest =
     ∙ ap (λ (l : List ℕ). includeLine ++ l) (append-assoc (registerText wiresLine w) (registerText bitsLine b) rest))
 
 pub read-opening : (w b g : ℕ) (ns : List ℤ) → w ≤ largest → b ≤ largest → Each w b g ns
-    → opening (openingText w b ++ statementsText g ns) ≡ good (record { wires = w; bits = b }) (past (past 3 w) b) (statementsText g ns)
+    → opening (openingText w b ++ statementsText g ns) ≡ good (record { wires = w; bits = b }) (firstLine w b) (statementsText g ns)
 unfolding opening
 read-opening w b g ns hw hb e =
     let rest : List ℕ = statementsText g ns in
@@ -152,29 +148,32 @@ read-opening w b g ns hw hb e =
 -- ---- what is read was spelled so
 
 perhaps-goes : {B : Type 0} (k : ℕ) (t bs : List ℕ) (next : ℕ → ℕ → List ℕ → Lines B) (v : B) (i : ℕ) (left : List ℕ) → Sizing t → perhaps k (register t bs) bs next ≡ good v i left
-    → (n : ℕ) × ((j : ℕ) × ((rest : List ℕ) × (((bs ≡ registerText t n ++ rest) × (n ≤ largest)) × (next n j rest ≡ good v i left))))
+    → (n : ℕ) × ((j : ℕ) × ((rest : List ℕ) × (((bs ≡ registerText t n ++ rest) × ((n ≤ largest) × (j ≤ suc k))) × (next n j rest ≡ good v i left))))
 unfolding registerText
 perhaps-goes {B} k t bs next v i left s h = go (register t bs) refl h
   where
     go : (o : Found ℕ) → register t bs ≡ o → perhaps k o bs next ≡ good v i left
-        → (n : ℕ) × ((j : ℕ) × ((rest : List ℕ) × (((bs ≡ registerText t n ++ rest) × (n ≤ largest)) × (next n j rest ≡ good v i left))))
-    go none e h = (0, (k, (bs, ((refl, omega arith), h))))
-    go (found n rest) e h = (n, (suc k, (rest, (register-read t bs n rest s e, h))))
+        → (n : ℕ) × ((j : ℕ) × ((rest : List ℕ) × (((bs ≡ registerText t n ++ rest) × ((n ≤ largest) × (j ≤ suc k))) × (next n j rest ≡ good v i left))))
+    go none e h = (0, (k, (bs, ((refl, (omega arith, omega arith)), h))))
+    go (found n rest) e h = let r = register-read t bs n rest s e in (n, (suc k, (rest, ((r .0, (r .1, omega arith)), h))))
 
-pub record OpeningRead (r : Registers) (bs left : List ℕ) : Type 0 where
+pub record OpeningRead (r : Registers) (bs : List ℕ) (i : ℕ) (left : List ℕ) : Type 0 where
   pub text : bs ≡ openingText (r .wires) (r .bits) ++ left
   pub wires-fit : r .wires ≤ largest
   pub bits-fit : r .bits ≤ largest
+  pub line : i ≤ 5
 
-spelt : (w b : ℕ) (bs r₀ r₁ r₂ left : List ℕ) → bs ≡ versionLine ++ r₀ → r₀ ≡ includeLine ++ r₁ → (r₁ ≡ registerText wiresLine w ++ r₂) × (w ≤ largest) → (r₂ ≡ registerText bitsLine b ++ left) × (b ≤ largest)
-    → OpeningRead (record { wires = w; bits = b }) bs left
-spelt w b bs r₀ r₁ r₂ left v n q c = record {
+spelt : (w b i j : ℕ) (bs r₀ r₁ r₂ left : List ℕ) → bs ≡ versionLine ++ r₀ → r₀ ≡ includeLine ++ r₁
+    → (r₁ ≡ registerText wiresLine w ++ r₂) × ((w ≤ largest) × (i ≤ 4)) → (r₂ ≡ registerText bitsLine b ++ left) × ((b ≤ largest) × (j ≤ suc i))
+    → OpeningRead (record { wires = w; bits = b }) bs j left
+spelt w b i j bs r₀ r₁ r₂ left v n q c = record {
   text = rw (v, n, q .0, c .0) (sym (opening-parts w b left));
-  wires-fit = q .1;
-  bits-fit = c .1;
+  wires-fit = q .1 .0;
+  bits-fit = c .1 .0;
+  line = omega (arith, q .1 .1, c .1 .1);
 }
 
-pub opening-read : (r : Registers) (bs : List ℕ) (i : ℕ) (left : List ℕ) → opening bs ≡ good r i left → OpeningRead r bs left
+pub opening-read : (r : Registers) (bs : List ℕ) (i : ℕ) (left : List ℕ) → opening bs ≡ good r i left → OpeningRead r bs i left
 unfolding opening
 opening-read r bs i left h =
     let v = line-goes 1 (word versionLine bs) _ r i left h in
@@ -182,6 +181,7 @@ opening-read r bs i left h =
     let q = perhaps-goes 3 wiresLine (n .1 .0) _ r i left sizing-wires (n .1 .1 .1) in
     let c = perhaps-goes (q .1 .0) bitsLine (q .1 .1 .0) _ r i left sizing-bits (q .1 .1 .1 .1) in
     let is : record { wires = q .0; bits = c .0 } ≡ r = cc in
+    let at : c .1 .0 ≡ i = cc in
     let end : c .1 .1 .0 ≡ left = cc in
-    let s = spelt (q .0) (c .0) bs (v .1 .0) (n .1 .0) (q .1 .1 .0) (c .1 .1 .0) (word-read versionLine bs (v .1 .0) (v .0) (v .1 .1 .0)) (word-read includeLine (v .1 .0) (n .1 .0) (n .0) (n .1 .1 .0)) (q .1 .1 .1 .0) (c .1 .1 .1 .0) in
-    subst (λ (x : Registers). OpeningRead x bs left) is (subst (λ (x : List ℕ). OpeningRead (record { wires = q .0; bits = c .0 }) bs x) end s)
+    let s = spelt (q .0) (c .0) (q .1 .0) (c .1 .0) bs (v .1 .0) (n .1 .0) (q .1 .1 .0) (c .1 .1 .0) (word-read versionLine bs (v .1 .0) (v .0) (v .1 .1 .0)) (word-read includeLine (v .1 .0) (n .1 .0) (n .0) (n .1 .1 .0)) (q .1 .1 .1 .0) (c .1 .1 .1 .0) in
+    subst (λ (x : Registers). OpeningRead x bs i left) is (subst (λ (x : List ℕ). OpeningRead (record { wires = q .0; bits = c .0 }) bs i x) end (subst (λ (x : ℕ). OpeningRead (record { wires = q .0; bits = c .0 }) bs x (c .1 .1 .0)) at s))

@@ -26,10 +26,10 @@ use Rattle.qasm.proofs.Statements.{codeOf, Gated, row-fit, row-signless
 use Rattle.qasm.proofs.Gates.{Each}
 use Rattle.qasm.proofs.Trips.{Spellable, rows-right}
 
--- ---- the numbers of a row: no index has more than four digits
+-- ---- the numbers that are spelled: no index has more than four digits
 
 record Small (row : List ℤ) : Type 0 where
-  index : (k : ℕ) → k < width → eqb k 0 ≡ false → eqb k 4 ≡ false → length (printed (getD row k (pos 0))) ≤ 4
+  index : (k : ℕ) → k < 5 → eqb k 0 ≡ false → eqb k 4 ≡ false → length (printed (getD row k (pos 0))) ≤ 4
   turn : length (printed (getD row 4 (pos 0))) ≤ 11
 
 four : (v : ℤ) (n : ℕ) → pos n ≡ v → n ≤ 1024 → length (printed v) ≤ 4
@@ -39,7 +39,7 @@ four v n e h = rw (← e) (decimal-long 3 n (omega arith))
 small-gate : (w b : ℕ) (row : List ℤ) → w ≤ maxWires → b ≤ maxBits → Gated w b row → Small row
 small-gate w b row hw hb g = record { index = at; turn = printed-short (getD row 4 (pos 0)) (record { sfits = omega (arith, ranged-at row 4 (g .each)) }) }
   where
-    at : (k : ℕ) → k < width → eqb k 0 ≡ false → eqb k 4 ≡ false → length (printed (getD row k (pos 0))) ≤ 4
+    at : (k : ℕ) → k < 5 → eqb k 0 ≡ false → eqb k 4 ≡ false → length (printed (getD row k (pos 0))) ≤ 4
     at zero h e f = absurd (true≢false e)
     at (suc zero) h e f = four (getD row 1 (pos 0)) (natOf (getD row 1 (pos 0))) (row-signless w b row (g .right) .first) (omega (arith, row-fit w b row (g .right) .first-in))
     at (suc (suc zero)) h e f =
@@ -60,7 +60,7 @@ small-gate w b row hw hb g = record { index = at; turn = printed-short (getD row
 small-size : (n : ℕ) → n ≤ 1024 → Small (sized n)
 small-size n h = record { index = at; turn = omega (arith, four (pos 0) 0 refl (omega arith)) }
   where
-    at : (k : ℕ) → k < width → eqb k 0 ≡ false → eqb k 4 ≡ false → length (printed (getD (sized n) k (pos 0))) ≤ 4
+    at : (k : ℕ) → k < 5 → eqb k 0 ≡ false → eqb k 4 ≡ false → length (printed (getD (sized n) k (pos 0))) ≤ 4
     at zero l e f = absurd (true≢false e)
     at (suc zero) l e f = four (pos n) n refl h
     at (suc (suc zero)) l e f = four (pos 0) 0 refl (omega arith)

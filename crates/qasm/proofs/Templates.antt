@@ -4,7 +4,7 @@ use mathlib.Core.Bool.{Bool, true, false, not, _&&_, _||_, cond, false≢true}
 use mathlib.Core.List.{List, [], _∷_, _++_, append-assoc}
 use Prim.Native.Nat.{ℕ, zero, suc, _+_, _≤_, _<_}
 use native.Mathlib.Omega.{arith}
-use borrow.Author.Tests.{eqb-false, not-true}
+use borrow.Author.Tests.{eqb-false, ne-eqb, not-true}
 use lib.Dec.{eqb}
 use lib.IntN.{ℤ, pos}
 use lib.ListN.{length, getD, set, length-set}
@@ -19,7 +19,7 @@ use Rattle.text.proofs.Lines.{goes-on, read-word, word-read}
 use Rattle.text.proofs.Grammar.{read-printed, printed-read}
 use Rattle.spelling.proofs.Spelling.{Ranged}
 use Rattle.qasm.specs.Table.{fieldOf}
-use Rattle.qasm.specs.Statement.{piece, spellBy, readPiece, readBy}
+use Rattle.qasm.specs.Statement.{piece, spellBy, readPiece, readBy, onLine}
 
 -- ---- what is asked of a template: one test that computes
 
@@ -50,7 +50,8 @@ unfolding names
 no-code [] = refl
 no-code (b ∷ t) = split (eqb (fieldOf b) 0) (λ e. rw e (no-code t)) (λ e. rw e (no-code t))
 
-pub field-lt : (b : ℕ) → fieldOf b < width
+-- no byte stands for the line
+pub field-lt : (b : ℕ) → fieldOf b < 5
 unfolding fieldOf
 field-lt b =
     split (eqb b 70) (λ e. rw e (omega arith))
@@ -58,13 +59,18 @@ field-lt b =
     (λ f. split (eqb b 84) (λ g. rw (e, f, g) (omega arith))
     (λ g. split (eqb b 75) (λ h. rw (e, f, g, h) (omega arith)) (λ h. rw (e, f, g, h) (omega arith)))))
 
+pub no-line : (t : List ℕ) → names 5 t ≡ false
+unfolding names
+no-line [] = refl
+no-line (b ∷ t) = rw (ne-eqb (fieldOf b) 5 (λ e. omega (arith, field-lt b))) (split (eqb (fieldOf b) 0) (λ e. rw e (no-line t)) (λ e. rw e (no-line t)))
+
 pub ranged-at : (vs : List ℤ) (k : ℕ) → Ranged vs → mag (getD vs k (pos 0)) ≤ largest
 unfolding Ranged
 ranged-at [] k h = omega arith
 ranged-at (v ∷ vs) zero h = h .0
 ranged-at (v ∷ vs) (suc k) h = ranged-at vs k (h .1)
 
-ranged-set : (vs : List ℤ) (k : ℕ) (v : ℤ) → Ranged vs → mag v ≤ largest → Ranged (set vs k v)
+pub ranged-set : (vs : List ℤ) (k : ℕ) (v : ℤ) → Ranged vs → mag v ≤ largest → Ranged (set vs k v)
 unfolding Ranged
 ranged-set [] k v h g = tt
 ranged-set (x ∷ vs) zero v h g = (g, h .1)
@@ -84,6 +90,12 @@ module _ (b : ℕ) (row : List ℤ) where
   pub piece-number : eqb (fieldOf b) 0 ≡ false → piece b row ≡ printed (getD row (fieldOf b) (pos 0))
   unfolding piece
   piece-number e = rw e
+
+-- what is spelled doesn't depend on the line
+pub spell-line : (t : List ℕ) (k : ℕ) (row : List ℤ) → spellBy t (onLine k row) ≡ spellBy t row
+unfolding spellBy piece
+spell-line [] k row = refl
+spell-line (b ∷ t) k row = rw (getD-set-other row 5 (fieldOf b) (pos k) (pos 0) (λ e. omega (arith, field-lt b)), spell-line t k row)
 
 module _ (b : ℕ) (bs : List ℕ) (row : List ℤ) where
   pub read-self : eqb (fieldOf b) 0 ≡ true → readPiece b bs row ≡ onward (word (b ∷ []) bs) none (λ u left. found row left)

@@ -1,4 +1,4 @@
--- Round trips: what is exported is imported as it was, and what is imported is exported byte for byte.
+-- Round trips: what is exported is imported as it was but for the lines, which are those of the text; and what is imported is exported byte for byte.
 use mathlib.Core.Path.{_≡_, refl, sym, ap, _∙_, subst}
 use mathlib.Core.Bool.{_||_}
 use mathlib.Core.List.{List, [], _++_}
@@ -8,20 +8,22 @@ use native.Mathlib.Omega.{arith}
 use borrow.Author.Tests.{ltb-false, le-ltb}
 use lib.Dec.{ltb}
 use lib.IntN.{ℤ}
-use lib.ListN.{length, drop}
+use lib.ListN.{length, drop, length-append}
 use Rattle.rules.specs.Limits.{width, maxWires, maxBits}
 use Rattle.rules.specs.Refusal.{Fault, faultAt}
 use Rattle.rules.proofs.Bits.{split}
+use Rattle.text.specs.Reading.{largest}
 use Rattle.spelling.specs.Lines.{Lines, bad, good}
 use Rattle.spelling.specs.Reading.{Rows}
 use Rattle.spelling.proofs.Spelling.{Ranged, ranged-take, ranged-drop}
 use Rattle.qasm.specs.Table.{spelled}
 use Rattle.qasm.specs.Import.{wrong, many, large, list, Registers, opening, body, judged, gathered, opened, readQasm}
-use Rattle.qasm.specs.Export.{openingText, statementsText, qasmText, unspelled}
+use Rattle.qasm.specs.Export.{openingText, statementsText, qasmText, unspelled, firstLine, relinedFrom, relined}
+use Rattle.qasm.specs.Contracts.{longest}
 use Rattle.qasm.proofs.Templates.{either}
 use Rattle.qasm.proofs.Gates.{Each, each-at, at-each, row-fault, row-code, row-size, all-spelled, spelled-all}
-use Rattle.qasm.proofs.Bodies.{statements-some, read-body, body-read}
-use Rattle.qasm.proofs.Openings.{past, read-opening, opening-read}
+use Rattle.qasm.proofs.Bodies.{statements-some, read-body, relined-size, body-read}
+use Rattle.qasm.proofs.Openings.{read-opening, opening-read}
 
 -- a list that export takes, of at most so many gates; and what import gives
 pub record Spellable (most w b : ℕ) (ns : List ℤ) : Type 0 where
@@ -50,15 +52,16 @@ rows-right most w b ns s =
 
 -- ---- export, then import
 
-pub export-import : (most w b : ℕ) (ns : List ℤ) → Spellable most w b ns → readQasm most (qasmText w b ns) ≡ list w b ns
-unfolding readQasm qasmText
+pub export-import : (most w b : ℕ) (ns : List ℤ) → Spellable most w b ns → readQasm most (qasmText w b ns) ≡ list w b (relined w b ns)
+unfolding readQasm qasmText relined
 export-import most w b ns s =
     let g : ℕ = length ns / width in
     let e = rows-right most w b ns s in
     let bs : List ℕ = statementsText g ns in
-    let k : ℕ = past (past 3 w) b in
-    let lines : body (length bs) w b k bs ≡ record { numbers = ns; behind = good tt (k + g) [] } = read-body (length bs) w b k g ns (statements-some w b g ns e) (sym (s .whole)) e in
-    rw (read-opening w b g ns (omega (arith, s .wires-fit)) (omega (arith, s .bits-fit)) e, lines, le-ltb most g (s .few), le-ltb maxWires w (s .wires-fit), le-ltb maxBits b (s .bits-fit))
+    let k : ℕ = firstLine w b in
+    let lines : body (length bs) w b k bs ≡ record { numbers = relinedFrom g k ns; behind = good tt (k + g) [] } = read-body (length bs) w b k g ns (statements-some w b g ns e) e in
+    let size : length (relinedFrom g k ns) / width ≡ g = omega (arith, relined-size g k ns (sym (s .whole))) in
+    rw (read-opening w b g ns (omega (arith, s .wires-fit)) (omega (arith, s .bits-fit)) e, lines, size, le-ltb most g (s .few), le-ltb maxWires w (s .wires-fit), le-ltb maxBits b (s .bits-fit))
 
 -- ---- import, then export
 
@@ -105,15 +108,16 @@ spelt most w b ns g size few hw hb ranged e =
       known = all-spelled ns (length ns / width) 0 (λ j h l. sym (ap spelled (row-code ns j)) ∙ each-at w b g ns j e (omega arith) .known) ∙ zero-add (length ns / width);
     }
 
-opened-list : (most : ℕ) (bs : List ℕ) (o : Lines Registers) (w b : ℕ) (ns : List ℤ) → opening bs ≡ o → opened most o ≡ list w b ns → (bs ≡ qasmText w b ns) × Spellable most w b ns
+opened-list : (most : ℕ) (bs : List ℕ) (o : Lines Registers) (w b : ℕ) (ns : List ℤ) → length bs ≤ longest → opening bs ≡ o → opened most o ≡ list w b ns → (bs ≡ qasmText w b ns) × Spellable most w b ns
 unfolding qasmText
-opened-list most bs (bad k) w b ns e h = not-wrong k w b ns h
-opened-list most bs (good r k left) w b ns e h =
+opened-list most bs (bad k) w b ns q e h = not-wrong k w b ns h
+opened-list most bs (good r k left) w b ns q e h =
     let rows : Rows = body (length left) (r .wires) (r .bits) k left in
     let p = gathered-list most r (rows .numbers) (rows .behind) w b ns h in
     let j = p .1 in
     let o = opening-read r bs k left e in
-    let l = body-read (length left) (r .wires) (r .bits) k left tt (p .0 .0) (p .0 .1 .0) (p .0 .1 .1) in
+    let short : k + length left ≤ largest = omega (arith, q, o .line, ap length (o .text), length-append (openingText (r .wires) (r .bits)) left) in
+    let l = body-read (length left) (r .wires) (r .bits) k left tt (p .0 .0) (p .0 .1 .0) short (p .0 .1 .1) in
     let g : length (rows .numbers) / width ≡ l .count = omega (arith, l .size) in
     let text : bs ≡ openingText (r .wires) (r .bits) ++ statementsText (length (rows .numbers) / width) (rows .numbers) = rw g (o .text ∙ ap (λ (x : List ℕ). openingText (r .wires) (r .bits) ++ x) (l .text)) in
     let s = spelt most (r .wires) (r .bits) (rows .numbers) (l .count) (l .size) (j .few) (j .wires-fit) (j .bits-fit) (l .ranged) (l .each) in
@@ -121,6 +125,13 @@ opened-list most bs (good r k left) w b ns e h =
     (subst (λ (y : ℕ). (bs ≡ openingText (r .wires) y ++ statementsText (length ns / width) ns) × Spellable most (r .wires) y ns) (j .bits-is)
     (subst (λ (z : List ℤ). (bs ≡ openingText (r .wires) (r .bits) ++ statementsText (length z / width) z) × Spellable most (r .wires) (r .bits) z) (j .numbers) (text, s)))
 
-pub import-export : (most : ℕ) (bs : List ℕ) (w b : ℕ) (ns : List ℤ) → readQasm most bs ≡ list w b ns → (bs ≡ qasmText w b ns) × Spellable most w b ns
+pub import-export : (most : ℕ) (bs : List ℕ) (w b : ℕ) (ns : List ℤ) → length bs ≤ longest → readQasm most bs ≡ list w b ns → (bs ≡ qasmText w b ns) × Spellable most w b ns
 unfolding readQasm
-import-export most bs w b ns h = opened-list most bs (opening bs) w b ns refl h
+import-export most bs w b ns q h = opened-list most bs (opening bs) w b ns q refl h
+
+-- so the lines are those of the text: the first gate's is the one behind the opening, and each is one more than the one before
+pub import-lines : (most : ℕ) (bs : List ℕ) (w b : ℕ) (ns : List ℤ) → length bs ≤ longest → readQasm most bs ≡ list w b ns → ns ≡ relined w b ns
+import-lines most bs w b ns q h =
+    let p = import-export most bs w b ns q h in
+    let e : list w b ns ≡ list w b (relined w b ns) = sym h ∙ ap (readQasm most) (p .0) ∙ export-import most w b ns (p .1) in
+    cc

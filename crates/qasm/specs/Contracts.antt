@@ -21,6 +21,10 @@ use Rattle.qasm.specs.declared.Imported.the-variants.{Wrong, Many, Large
 
 -- ---- parts of the text
 
+-- so many bytes have fewer lines than a gate's number can say
+abbrev pub longest : ℕ
+longest = 2 ^ 30
+
 -- where the spelling of a code stands in the table
 pub record Stands (c from to : ℕ) : Type 0 where
   pub part : take (to - from) (drop from table) ≡ template c

@@ -11,7 +11,7 @@ use Rattle.text.specs.Bytes.{bytes}
 use Rattle.text.specs.Reading.{Found, none, found, onward, word}
 use Rattle.spelling.specs.Lines.{Lines, bad, good, line}
 use Rattle.spelling.specs.Reading.{Rows}
-use Rattle.qasm.specs.Statement.{bare, readBy, statement}
+use Rattle.qasm.specs.Statement.{bare, onLine, readBy, statement}
 
 -- ---- the lines before the gates
 
@@ -63,15 +63,15 @@ abbrev pub atEnd : {A : Type 0} → List ℕ → A → A → A
 atEnd [] done more = done
 atEnd (b ∷ bs) done more = more
 
--- a statement a line up to the end of the text, from line k on: the gates' numbers up to the first line that is wrong. A statement has a byte
--- at least, so that as many lines as there are bytes are enough
+-- a statement a line up to the end of the text, from line k on: the gates' numbers up to the first line that is wrong, each gate with its statement's
+-- line. A statement has a byte at least, so that as many lines as there are bytes are enough
 unfoldable pub body : ℕ → ℕ → ℕ → ℕ → List ℕ → Rows
 unfolding statement
 body zero w b k bs = atEnd bs (record { numbers = []; behind = good tt k [] }) (record { numbers = []; behind = bad k })
 body (suc n) w b k bs =
     let more = onward {B = Rows} (statement w b bs) (record { numbers = []; behind = bad k }) (λ row left.
     let others = body n w b (suc k) left in
-    record { numbers = row ++ others .numbers; behind = others .behind }) in
+    record { numbers = onLine k row ++ others .numbers; behind = others .behind }) in
     atEnd bs (record { numbers = []; behind = good tt k [] }) more
 
 -- ---- the whole text

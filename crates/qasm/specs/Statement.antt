@@ -38,14 +38,18 @@ readBy (b ∷ t) bs row = onward (readPiece b bs row) none (λ now left. readBy 
 
 -- ---- a gate's line
 
--- a gate's five numbers, spelled by its code
+-- a gate's numbers, spelled by its code. No template names the sixth: its line isn't spelled
 unfoldable pub statementText : List ℤ → List ℕ
 unfolding spellBy
 statementText row = spellBy (template (natOf (getD row 0 (pos 0)))) row
 
 -- of a gate only its code is known; what a template doesn't name is 0
 abbrev pub bare : ℕ → List ℤ
-bare c = pos c ∷ pos 0 ∷ pos 0 ∷ pos 0 ∷ pos 0 ∷ []
+bare c = pos c ∷ pos 0 ∷ pos 0 ∷ pos 0 ∷ pos 0 ∷ pos 0 ∷ []
+
+-- a gate that stands on line k: its sixth number
+abbrev pub onLine : ℕ → List ℤ → List ℤ
+onLine k row = set row 5 (pos k)
 
 -- a gate of code c, if the code is spelled
 unfoldable pub readAs : ℕ → List ℕ → Found (List ℤ)

@@ -17,7 +17,7 @@ ghost use Rattle.qasm.specs.Table as Table;
 ghost use Rattle.qasm.specs.Statement as Statement;
 ghost use Rattle.qasm.specs.Import as Import;
 ghost use Rattle.qasm.specs.Export as Export;
-ghost use Rattle.qasm.specs.Contracts.{Stands, firstPart, secondPart, ReadsSize, ReadsBody, ReadsQasm, Writable, pieceSize, templateSize, statementSize, registerSize, openingSize, qasmSize, lineAfter, Judges};
+ghost use Rattle.qasm.specs.Contracts.{Stands, longest, firstPart, secondPart, ReadsSize, ReadsBody, ReadsQasm, Writable, pieceSize, templateSize, statementSize, registerSize, openingSize, qasmSize, lineAfter, Judges};
 
 // A line for each code, empty where it isn't spelled. F, S, T and K stand for first, second, third and turn.
 const TABLE: [u8; 180] =
@@ -189,6 +189,7 @@ fn set_bare(row: &mut [i32], code: u32)
     row[2] = 0;
     row[3] = 0;
     row[4] = 0;
+    row[5] = 0;
 }
 
 // A gate of this code, if it is spelled.
@@ -302,7 +303,7 @@ fn read_register(text: &[u8], at: usize, template: &[u8]) -> Register
     requires { ⌜ at ≤ length (now text) ⌝ }
     ensures { λ r. ⌜ ReadsSize (now (text .entry)) (Import.register (now (template .entry)) (drop at (now (text .entry)))) at (r .size) (r .next) ⌝ }
 {
-    let mut row = [0i32; 5];
+    let mut row = [0i32; GATE_WIDTH];
     let p = read_by(text, at, template, &mut row);
     let ok = p.ok;
     let size = gate::nat(row[1]);
@@ -361,9 +362,10 @@ fn keep(numbers: &mut [i32], i: usize, most: usize, row: &[i32])
     numbers[at + 2] = row[2];
     numbers[at + 3] = row[3];
     numbers[at + 4] = row[4];
+    numbers[at + 5] = row[5];
 }
 
-// A statement a line up to the end of the text, all of them, also beyond the most gates.
+// A statement a line up to the end of the text, all of them, also beyond the most gates. Each gate has its statement's line.
 fn read_body(
     text: &[u8],
     at: usize,
@@ -374,13 +376,13 @@ fn read_body(
     most: usize,
     numbers: &mut [i32],
 ) -> Body
-    requires { ⌜ (at ≤ length (now text)) × (line ≤ 5) ⌝ }
+    requires { ⌜ (at ≤ length (now text)) × ((line ≤ 5) × (length (now text) ≤ longest)) ⌝ }
     requires { ⌜ now table ≡ Table.table ⌝ }
     requires { ⌜ width * most ≤ length (now numbers) ⌝ }
     ensures { λ r. ⌜ ReadsBody (Import.body (length (drop at (now (text .entry)))) wires bits line (drop at (now (text .entry)))) most (now (numbers .entry)) (now (numbers .exit)) (r .ok) (r .line) (r .count) ⌝ }
 {
     let n = text.len();
-    let mut row = [0i32; 5];
+    let mut row = [0i32; GATE_WIDTH];
     let mut next = at;
     let mut i = 0;
     while next < n {
@@ -393,6 +395,7 @@ fn read_body(
                 count: i,
             };
         }
+        row[5] = (line + i) as i32;
         keep(&mut *numbers, i, most, &row);
         next = p.next;
         i += 1;
@@ -417,8 +420,9 @@ fn judge(wires: u32, bits: u32, count: usize, most: usize) -> Imported
     Imported::Good(wires, bits, count)
 }
 
-// The whole text, of at most so many gates. Their numbers go into the room.
+// The whole text, of at most so many gates. Their numbers go into the room. A text as long as asked has no more lines than a gate's number can say.
 pub fn read_qasm(text: &[u8], most: usize, numbers: &mut [i32]) -> Imported
+    requires { ⌜ length (now text) ≤ longest ⌝ }
     requires { ⌜ width * most ≤ length (now numbers) ⌝ }
     ensures { λ r. ⌜ ReadsQasm (now (text .entry)) most (now (numbers .entry)) (now (numbers .exit)) r ⌝ }
 {
@@ -494,6 +498,15 @@ fn write_statement(out: &mut [u8], at: usize, table: &[u8], row: &[i32]) -> usiz
     write_by(out, at, &table[from..to], row)
 }
 
+// The same by the table itself, for a caller that has but one gate.
+pub fn write_gate(out: &mut [u8], at: usize, row: &[i32]) -> usize
+    requires { ⌜ at + statementSize ≤ length (now out) ⌝ }
+    requires { ⌜ length (now row) ≡ width ⌝ }
+    ensures { λ r. ⌜ Prints statementSize (Statement.statementText (now (row .entry))) (now (out .entry)) at (now (out .exit)) r ⌝ }
+{
+    write_statement(out, at, &TABLE, row)
+}
+
 // A line for each gate.
 fn write_statements(out: &mut [u8], at: usize, table: &[u8], numbers: &[i32]) -> usize
     requires { ⌜ at + statementSize * (length (now numbers) / width) ≤ length (now out) ⌝ }
@@ -523,7 +536,7 @@ fn write_register(out: &mut [u8], at: usize, template: &[u8], size: u32) -> usiz
     if size == 0 {
         return at;
     }
-    let row = [0, size as i32, 0, 0, 0];
+    let row = [0, size as i32, 0, 0, 0, 0];
     write_by(out, at, template, &row)
 }
 

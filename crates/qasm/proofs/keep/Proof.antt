@@ -67,29 +67,42 @@ slice-set-from-numbers-4 c = simp length-set (omega arith)
 shared-slice-copy-out-numbers-5 : tie.Need-shared-slice-copy-out-numbers-5
 shared-slice-copy-out-numbers-5 c = search needs
 
-add-t12 : tie.Need-add-t12
-add-t12 c = search needs
+add-numbers-4 : tie.Need-add-numbers-4
+add-numbers-4 c = search needs
 
-mul-t9 : tie.Need-mul-t9
-mul-t9 c = search needs
+mul-numbers-5 : tie.Need-mul-numbers-5
+mul-numbers-5 c = search needs
 
 slice-set-from-numbers-5 : tie.Need-slice-set-from-numbers-5
 slice-set-from-numbers-5 c = simp length-set (omega arith)
 
+shared-slice-copy-out-numbers-6 : tie.Need-shared-slice-copy-out-numbers-6
+shared-slice-copy-out-numbers-6 c = search needs
+
+add-t9 : tie.Need-add-t9
+add-t9 c = search needs
+
+mul-t12 : tie.Need-mul-t12
+mul-t12 c = search needs
+
+slice-set-from-numbers-6 : tie.Need-slice-set-from-numbers-6
+slice-set-from-numbers-6 c = simp length-set (omega arith)
+
 same-length : tie.Need-same-length
-same-length c = search needs
+same-length c = simp length-set (omega arith)
 
 returns-2 : tie.Need-returns-2
 returns-2 c =
-    let s = (c .before .before .before .before .before .before) in
+    let s = (c .before .before .before .before .before .before .before) in
     let row : List ℤ = s .args .row .now in
     rw (
-      lt-ltb (s .args .i) (s .args .most) ((c .before .before .before .before .before) .if1 .left),
-      toZ-ofZ w32 (getD row 0 (pos 0)) (record { sfits = (c .before .before .before .before) .numbers .given }),
-      toZ-ofZ w32 (getD row 1 (pos 0)) (record { sfits = (c .before .before .before) .numbers2 .given }),
-      toZ-ofZ w32 (getD row 2 (pos 0)) (record { sfits = (c .before .before) .numbers3 .given }),
-      toZ-ofZ w32 (getD row 3 (pos 0)) (record { sfits = (c .before) .numbers4 .given }),
-      toZ-ofZ w32 (getD row 4 (pos 0)) (record { sfits = c .numbers5 .given }),
+      lt-ltb (s .args .i) (s .args .most) ((c .before .before .before .before .before .before) .if1 .left),
+      toZ-ofZ w32 (getD row 0 (pos 0)) (record { sfits = (c .before .before .before .before .before) .numbers .given }),
+      toZ-ofZ w32 (getD row 1 (pos 0)) (record { sfits = (c .before .before .before .before) .numbers2 .given }),
+      toZ-ofZ w32 (getD row 2 (pos 0)) (record { sfits = (c .before .before .before) .numbers3 .given }),
+      toZ-ofZ w32 (getD row 3 (pos 0)) (record { sfits = (c .before .before) .numbers4 .given }),
+      toZ-ofZ w32 (getD row 4 (pos 0)) (record { sfits = (c .before) .numbers5 .given }),
+      toZ-ofZ w32 (getD row 5 (pos 0)) (record { sfits = c .numbers6 .given }),
     )
     (row-kept (s .args .numbers .now) (width * s .args .i) row (s .pre .1) (omega (arith, s .pre .0)))
 
@@ -115,8 +128,12 @@ keep-spec =
     mul-numbers-4
     slice-set-from-numbers-4
     shared-slice-copy-out-numbers-5
-    add-t12
-    mul-t9
+    add-numbers-4
+    mul-numbers-5
     slice-set-from-numbers-5
+    shared-slice-copy-out-numbers-6
+    add-t9
+    mul-t12
+    slice-set-from-numbers-6
     same-length
     returns-2)

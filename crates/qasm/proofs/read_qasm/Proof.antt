@@ -41,7 +41,8 @@ read-body-requires : tie.Need-read-body-requires
 unfolding table
 read-body-requires c κs =
     let o = (c .before .before .before) .read-opening .ensures in
-    ((o .0 .within, o .1), (refl, (c .before .before .before .before .before) .pre))
+    let p = (c .before .before .before .before .before) .pre in
+    ((o .0 .within, (o .1, p .0)), (refl, p .1))
 
 same-length : tie.Need-same-length
 same-length c = search needs

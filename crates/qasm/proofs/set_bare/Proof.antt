@@ -29,6 +29,9 @@ slice-set-of-row-3 c = search needs
 slice-set-of-row-4 : tie.Need-slice-set-of-row-4
 slice-set-of-row-4 c = simp length-set (omega arith)
 
+slice-set-of-row-5 : tie.Need-slice-set-of-row-5
+slice-set-of-row-5 c = simp length-set (omega arith)
+
 same-length : tie.Need-same-length
 same-length c = search needs
 
@@ -45,5 +48,6 @@ set-bare-spec =
     slice-set-of-row-2
     slice-set-of-row-3
     slice-set-of-row-4
+    slice-set-of-row-5
     same-length
     returns)
