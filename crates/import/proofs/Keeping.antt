@@ -7,14 +7,16 @@ use native.Mathlib.Omega.{arith}
 use lib.Dec.{ltb}
 use lib.IntN.{ℤ}
 use lib.ListN.{length}
+use Rattle.rules.specs.Limits.{width}
 use Rattle.rules.proofs.Bits.{split}
 use Rattle.spelling.specs.Sizes.{listBytes, listGates}
+use Rattle.spelling.proofs.Forms.{shown-six}
 use Rattle.spelling.proofs.Spelling.{Listed, read-text}
 use Rattle.saying.specs.Contracts.{Says}
 use Rattle.saying.specs.declared.Said.{Said}
 use Rattle.saying.proofs.Saying.{says-shown}
 use Rattle.qasm.specs.Import.{Import, wrong, many, large, list, readQasm}
-use Rattle.qasm.proofs.Trips.{Spellable, import-export}
+use Rattle.qasm.proofs.Trips.{Spellable, import-export, import-lines}
 use Rattle.import.specs.Answer.{headFor, readAs, answerBy, translated, answer}
 use Rattle.import.specs.Contracts.{Translated, Imports}
 use Rattle.import.proofs.Taking.{answer-kept}
@@ -29,13 +31,22 @@ spelled-listed w b ns s = record {
   few = s .few;
   count = omega (arith, s .few);
   each = s .each;
+  shown = shown-six (length ns / width) ns;
 }
 
-list-kept : (text : List ℕ) (w b : ℕ) (ns : List ℤ) → readQasm listGates text ≡ list w b ns → Translated text (translated (headFor w b) ns .text)
+list-kept : (text : List ℕ) (w b : ℕ) (ns : List ℤ) → length text ≤ listBytes → readQasm listGates text ≡ list w b ns → Translated text (translated (headFor w b) ns .text)
 unfolding translated
-list-kept text w b ns e =
-    let p = import-export listGates text w b ns e in
-    record { wires = w; bits = b; numbers = ns; reads = e; reads-back = read-text listGates (headFor w b) ns (spelled-listed w b ns (p .1)); exports = sym (p .0) }
+list-kept text w b ns h e =
+    let p = import-export listGates text w b ns (omega arith) e in
+    record {
+      wires = w;
+      bits = b;
+      numbers = ns;
+      reads = e;
+      reads-back = read-text listGates (headFor w b) ns (spelled-listed w b ns (p .1));
+      exports = sym (p .0);
+      lines = sym (import-lines listGates text w b ns (omega arith) e);
+    }
 
 text-kept : (text : List ℕ) → answer text .refused ≡ false → Translated text (answer text .text)
 unfolding answer

@@ -1,3 +1,4 @@
+mod Cases
 mod Lines
 pub mod Taking
 pub mod Keeping

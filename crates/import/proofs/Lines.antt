@@ -13,7 +13,7 @@ use Rattle.text.specs.Reading.{Found, none, found, onward, word}
 use Rattle.spelling.specs.Lines.{Lines, bad, good, line}
 use Rattle.spelling.specs.Reading.{Rows}
 use Rattle.saying.proofs.Places.{number, line-number}
-use Rattle.qasm.specs.Statement.{statement}
+use Rattle.qasm.specs.Statement.{onLine, statement}
 use Rattle.qasm.specs.Import.{Import, wrong, many, large, list, Registers, versionLine, includeLine, wiresLine, bitsLine, register, perhaps, opening, body, judged, gathered, opened, readQasm}
 use Rattle.qasm.specs.Export.{openingText}
 use Rattle.qasm.proofs.Openings.{opening-read}
@@ -44,7 +44,7 @@ body-number (suc n) w b k [] = omega arith
 body-number (suc n) w b k (c ∷ bs) = go (statement w b (c ∷ bs)) (λ left. body-number n w b (suc k) left)
   where
     go : (o : Found (List ℤ)) → ((left : List ℕ) → number (body n w b (suc k) left .behind) ≤ suc k + n)
-        → number (onward {B = Rows} o (record { numbers = []; behind = bad k }) (λ row left. record { numbers = row ++ body n w b (suc k) left .numbers; behind = body n w b (suc k) left .behind }) .behind) ≤ k + suc n
+        → number (onward {B = Rows} o (record { numbers = []; behind = bad k }) (λ row left. record { numbers = onLine k row ++ body n w b (suc k) left .numbers; behind = body n w b (suc k) left .behind }) .behind) ≤ k + suc n
     go none f = omega arith
     go (found row left) f = omega (arith, f left)
 

@@ -3,13 +3,13 @@ use mathlib.Core.List.{List}
 use Prim.Native.Nat.{ℕ}
 use lib.IntN.{ℤ}
 use Rattle.spelling.specs.Sizes.{listGates}
-use Rattle.spelling.specs.Texts.{Head, listText, refusalText}
+use Rattle.spelling.specs.Texts.{six, Head, listText, refusalText}
 use Rattle.saying.specs.Answer.{Answer, Next, answered, refusal, unlessLong}
 use Rattle.qasm.specs.Import.{Import, wrong, many, large, list, readQasm}
 
--- a laboratory's list has no caps of its own
+-- a laboratory's list has no caps of its own. `head 5` with 6: each gate shows its line
 abbrev pub headFor : ℕ → ℕ → Head
-headFor wires bits = record { wires = wires; bits = bits; qubits = 128; terms = 512 }
+headFor wires bits = record { wires = wires; bits = bits; qubits = 128; terms = 512; form = six }
 
 -- 13: the first line that is wrong or missing; 12: more than 512 gates; 3: more than 1,024 wires or bits
 abbrev pub readAs : Next → Import → Answer
@@ -23,7 +23,7 @@ unfoldable pub answerBy : Next → List ℕ → Answer
 unfolding readQasm refusalText
 answerBy next text = unlessLong text (readAs next (readQasm listGates text))
 
--- import only translates: our list, the gates as they came, and no counts
+-- import only translates: our list, the gates as they came, each with its statement's line, and no counts
 unfoldable pub translated : Head → List ℤ → Answer
 unfolding listText
 translated h numbers = answered (listText h numbers)

@@ -6,7 +6,7 @@ use Prim.Native.Nat.{ℕ, _*_, _≤_}
 use lib.IntN.{ℤ}
 use lib.ListN.{length, take}
 use Rattle.rules.specs.Limits.{width}
-use Rattle.spelling.specs.Sizes.{listGates}
+use Rattle.spelling.specs.Sizes.{listBytes, listGates}
 use Rattle.spelling.specs.Reading.{read, readText}
 use Rattle.spelling.specs.Heads.{headOf}
 use Rattle.spelling.specs.declared.Head.{Head}
@@ -16,11 +16,12 @@ use Rattle.saying.specs.declared.Said.{Said}
 use Rattle.saying.specs.declared.Taken.{Taken}
 use Rattle.saying.specs.declared.Taken.the-variants.{Refused, Good}
 use Rattle.qasm.specs.Import.{list, readQasm}
-use Rattle.qasm.specs.Export.{qasmText}
+use Rattle.qasm.specs.Export.{qasmText, relined}
 use Rattle.import.specs.Answer.{headFor, answerBy, answer}
 
 -- what a text that was read leaves in the numbers' room: whole gates, not too many, and all of them there. What the program says of them is the answer
 pub record Held (text : List ℕ) (numbers′ : List ℤ) (h : Head) (n : ℕ) : Type 0 where
+  pub short : length text ≤ listBytes
   pub most : n ≤ listGates
   pub fits : width * n ≤ length numbers′
   pub few : Few (take (width * n) numbers′)
@@ -43,6 +44,8 @@ pub record Translated (text printed : List ℕ) : Type 0 where
   pub reads-back : readText listGates printed ≡ read (headFor wires bits) numbers
   -- wrong: two spellings of one gate
   pub exports : qasmText wires bits numbers ≡ text
+  -- wrong: the gates counted, or the opening not: each gate's sixth number is the number of its statement's line
+  pub lines : relined wires bits numbers ≡ numbers
 
 -- every text is answered by the definition's bytes; and where they are no refusal, nothing is lost on the way
 pub record Imports (text room : List ℕ) (r : Said) (room′ : List ℕ) : Type 0 where

@@ -23,6 +23,9 @@ pub const QUBIT_CAP: u32 = 128;
 
 pub const TERM_CAP: u32 = 512;
 
+// `head 5` with 6: each gate shows its line.
+const LINED: u32 = GATE_WIDTH as u32;
+
 // 10, then line by line 13, then 12 and 3. The gates' numbers go into the room.
 pub fn take(text: &[u8], numbers: &mut [i32], out: &mut [u8]) -> Taken
     requires { ⌜ width * listGates ≤ length (now numbers) ⌝ }
@@ -42,6 +45,7 @@ pub fn take(text: &[u8], numbers: &mut [i32], out: &mut [u8]) -> Taken
                 bits,
                 qubits: QUBIT_CAP,
                 terms: TERM_CAP,
+                form: LINED,
             };
             Taken::Good(head, n)
         }
