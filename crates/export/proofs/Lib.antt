@@ -1,2 +1,3 @@
+mod Cases
 mod Answering
 pub mod Keeping
