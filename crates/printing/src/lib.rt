@@ -2,12 +2,9 @@
 use rules::GATE_WIDTH;
 use spelling::Head;
 ghost use mathlib.Core.Path.{_≡_};
-ghost use mathlib.Core.Bool.{cond};
-ghost use Prim.Native.Nat.{_+_, _-_, _*_, _/_, _≤_, _<_};
-ghost use lib.Dec.{eqb};
+ghost use Prim.Native.Nat.{_+_, _*_, _/_, _≤_};
 ghost use lib.ListN.{length};
 ghost use Rattle.rules.specs.Limits.{width};
-ghost use Rattle.text.specs.Bytes.{lf, blank};
 ghost use Rattle.text.specs.Contracts.{Prints, lineSize, namedSize, numberSize};
 ghost use Rattle.spelling.specs.Texts as Texts;
 ghost use Rattle.spelling.specs.Heads.{headOf};
@@ -38,14 +35,6 @@ fn write_section(out: &mut [u8], at: usize, word: &[u8], values: &[u32]) -> usiz
     write_lines(out, next, values)
 }
 
-// What ends number k of a line of n.
-fn end_of(k: usize, n: usize) -> u8
-    requires { ⌜ k < n ⌝ }
-    ensures { λ r. ⌜ r ≡ cond (eqb (n - (k + 1)) 0) lf blank ⌝ }
-{
-    if k + 1 < n { b' ' } else { b'\n' }
-}
-
 // A line of signed numbers.
 fn write_row(out: &mut [u8], at: usize, row: &[i32]) -> usize
     requires { ⌜ at + numberSize * length (now row) ≤ length (now out) ⌝ }
@@ -55,7 +44,7 @@ fn write_row(out: &mut [u8], at: usize, row: &[i32]) -> usize
     let mut next = at;
     let mut k = 0;
     while k < n {
-        next = text::write_ended(&mut *out, next, row[k], end_of(k, n));
+        next = text::write_ended(&mut *out, next, row[k], spelling::end_of(k, n));
         k += 1;
     }
     next

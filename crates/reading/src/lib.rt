@@ -4,12 +4,9 @@ use spelling::Head;
 use text::Natural;
 use text::Place;
 ghost use mathlib.Core.Path.{_≡_};
-ghost use mathlib.Core.Bool.{cond};
-ghost use Prim.Native.Nat.{_+_, _-_, _*_, _^_, _≤_, _<_};
-ghost use lib.Dec.{eqb};
+ghost use Prim.Native.Nat.{_+_, _*_, _^_, _≤_, _<_};
 ghost use lib.ListN.{length, drop};
 ghost use Rattle.rules.specs.Limits.{width};
-ghost use Rattle.text.specs.Bytes.{lf, blank};
 ghost use Rattle.text.specs.Contracts.{Reads};
 ghost use Rattle.spelling.specs.Texts.{formOf};
 ghost use Rattle.spelling.specs.Reading as Spec;
@@ -145,14 +142,6 @@ fn read_head(text: &[u8], at: usize, line: usize) -> Heading
     }
 }
 
-// What ends number k of a line of n.
-fn end_of(k: usize, n: usize) -> u8
-    requires { ⌜ k < n ⌝ }
-    ensures { λ r. ⌜ r ≡ cond (eqb (n - (k + 1)) 0) lf blank ⌝ }
-{
-    if k + 1 < n { b' ' } else { b'\n' }
-}
-
 // A line of n numbers: they go into the room from a place on.
 fn read_row(text: &[u8], at: usize, numbers: &mut [i32], to: usize, n: usize) -> Place
     requires { ⌜ at ≤ length (now text) ⌝ }
@@ -162,7 +151,7 @@ fn read_row(text: &[u8], at: usize, numbers: &mut [i32], to: usize, n: usize) ->
     let mut next = at;
     let mut k = 0;
     while k < n {
-        let v = text::read_ended(text, next, end_of(k, n));
+        let v = text::read_ended(text, next, spelling::end_of(k, n));
         let ok = v.ok;
         let value = v.value;
         if !ok {

@@ -1,9 +1,12 @@
 // A list spelled as a text, both ways: the definitions that reading and printing share, and the laws that each undoes the other.
-// Of code, a list's head and its form, and the sizes of the programs that take a text, each by name and once.
+// Of code, a list's head and its form, what ends a number of a line, and the sizes of the programs that take a text, each by name and once.
 use rules::GATE_WIDTH;
 ghost use mathlib.Core.Path.{_≡_};
-ghost use Prim.Native.Nat.{_+_};
+ghost use mathlib.Core.Bool.{cond};
+ghost use Prim.Native.Nat.{_+_, _-_, _<_};
+ghost use lib.Dec.{eqb};
 ghost use lib.ListN.{length};
+ghost use Rattle.text.specs.Bytes.{lf, blank};
 ghost use Rattle.spelling.specs.Sizes as Sizes;
 ghost use Rattle.spelling.specs.Texts as Texts;
 
@@ -39,6 +42,14 @@ pub fn per_gate(form: u32) -> usize
     } else {
         GATE_WIDTH
     }
+}
+
+// What ends number k of a line of n.
+pub fn end_of(k: usize, n: usize) -> u8
+    requires { ⌜ k < n ⌝ }
+    ensures { λ r. ⌜ r ≡ cond (eqb (n - (k + 1)) 0) lf blank ⌝ }
+{
+    if k + 1 < n { b' ' } else { b'\n' }
 }
 
 // The sizes in one value, so that one statement says that the code's are the definitions'.

@@ -1,10 +1,10 @@
--- `printing::end_of` meets its contract.
+-- `spelling::end_of` meets its contract.
 use Prim.Native.Nat.{_+_, _-_}
 use native.Mathlib.Omega.{arith}
 use borrow.Author.Tests.{eq-eqb, ne-eqb}
 use borrow.Author.Needs.{needs}
-use Rattle.printing.proofs.end_of.Statement.{statement}
-use Rattle.printing.proofs.end_of.Tie as tie
+use Rattle.spelling.proofs.end_of.Statement.{statement}
+use Rattle.spelling.proofs.end_of.Tie as tie
 
 add-if1 : tie.Need-add-if1
 add-if1 c = search needs
