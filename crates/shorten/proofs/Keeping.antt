@@ -2,7 +2,8 @@
 use mathlib.Core.Path.{_≡_, refl, sym, ap, _∙_}
 use mathlib.Core.Bool.{true, false, true≢false}
 use mathlib.Core.List.{List}
-use Prim.Native.Nat.{ℕ, _*_}
+use Prim.Native.Nat.{ℕ, _*_, _≤_}
+use native.Mathlib.Omega.{arith}
 use lib.Dec.{ltb}
 use lib.IntN.{ℤ}
 use lib.ListN.{length, take}
@@ -35,10 +36,10 @@ pub shown : (h : Head) (l : List ℤ) (c : Counts) (room′ : List ℤ) → Made
 unfolding shortened
 shown h l c room′ m = ap (λ (ns : List ℤ). answered (qasmText (h .wires) (h .bits) ns)) (sym (m .numbers))
 
-list-kept : (text : List ℕ) (w b : ℕ) (ns : List ℤ) → readQasm listGates text ≡ list w b ns → Kept text (shortened (headFor w b) ns .text)
+list-kept : (text : List ℕ) (w b : ℕ) (ns : List ℤ) → length text ≤ listBytes → readQasm listGates text ≡ list w b ns → Kept text (shortened (headFor w b) ns .text)
 unfolding shortened
-list-kept text w b ns e =
-    let s = import-export listGates text w b ns e .1 in
+list-kept text w b ns h e =
+    let s = import-export listGates text w b ns (omega arith) e .1 in
     let new : Result = pass 128 512 (gatesOf ns) in
     record {
       wires = w;

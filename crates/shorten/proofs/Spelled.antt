@@ -16,8 +16,8 @@ use Rattle.rules.proofs.Reading.{length-numbers, read-written}
 use Rattle.spelling.specs.Sizes.{listGates}
 use Rattle.saying.specs.Answer.{exact}
 use Rattle.saying.proofs.Checking.{right-exact}
-use Rattle.fitting.proofs.Each.{Each, Plain, each-pass}
-use Rattle.fitting.proofs.Made.{each-gates, gates-each, made-right, made-few, made-ranged}
+use Rattle.fitting.proofs.Each.{Each, Plain, each-gates, gates-each, each-pass}
+use Rattle.fitting.proofs.Made.{made-right, made-few, made-ranged}
 use Rattle.qasm.specs.Table.{spelled}
 use Rattle.qasm.specs.Export.{unspelled}
 use Rattle.qasm.proofs.Gates.{all-spelled, spelled-all}
@@ -61,7 +61,7 @@ made-spellable w b ns s =
     let new : List Gate = pass 128 512 (gatesOf ns) .gates in
     let size = length-numbers new in
     let few = made-few (headFor w b) ns e in
-    let each : Each Spelled new = each-pass Spelled (λ g p. fragment (g .code) (p .least) (p .most)) 128 512 (gatesOf ns) (spelled-gates ns (s .known)) in
+    let each : Each Spelled new = each-pass Spelled (λ g p. fragment (g .code) (p .least) (p .most)) (λ n g s. s) 128 512 (gatesOf ns) (spelled-gates ns (s .known)) in
     record {
       whole = omega arith;
       few = omega (arith, s .few);

@@ -54,7 +54,7 @@ slice-aggregate-minimize c = sym (length-take-le _ _ (held (c .before .before) .
 minimize-requires : tie.Need-minimize-requires
 minimize-requires c κs =
     let h = held (c .before .before .before) in
-    let t = import-export listGates _ _ _ _ (h .0 .reads) .1 in
+    let t = import-export listGates _ _ _ _ (omega (arith, h .0 .short)) (h .0 .reads) .1 in
     (h .0 .few, (rw (h .0 .head) (imported-exact _ _ _ t), omega (arith, ap length (h .1), c .before .before .before .before .before .before .before .before .before .before .before .before .before .pre)))
 
 same-length : tie.Need-same-length
