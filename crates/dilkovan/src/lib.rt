@@ -1,6 +1,7 @@
 // The static library: the entry points under names that a program in another language can call. A slice is a pointer and a count.
 use cnot_min::Answer;
 use cnot_min::Counts;
+use spelling::ANSWER_BYTES;
 ghost use mathlib.Core.Bool.{cond};
 ghost use mathlib.Core.Path.{_≡_};
 ghost use Rattle.cnot_min.specs.Minimizing.{told, counted};
@@ -75,7 +76,11 @@ fn flag(b: bool) -> u64
 
 // `list::list`: 0 an answer, 1 a refusal. Its bytes begin `out`, and `length` says how many they are.
 #[no_mangle]
-pub extern "C" fn dilkovan_list(text: &[u8], out: &mut [u8; 32768], length: &mut usize) -> u64
+pub extern "C" fn dilkovan_list(
+    text: &[u8],
+    out: &mut [u8; ANSWER_BYTES],
+    length: &mut usize,
+) -> u64
     ensures { λ r. ⌜ ExportsText List.answer Lists (now (text .entry)) (now (out .entry)) r (now (out .exit)) (now (length .exit)) ⌝ }
 {
     let a = list::list(text, out);
@@ -85,7 +90,11 @@ pub extern "C" fn dilkovan_list(text: &[u8], out: &mut [u8; 32768], length: &mut
 
 // `import::import`, in the same way.
 #[no_mangle]
-pub extern "C" fn dilkovan_import(text: &[u8], out: &mut [u8; 32768], length: &mut usize) -> u64
+pub extern "C" fn dilkovan_import(
+    text: &[u8],
+    out: &mut [u8; ANSWER_BYTES],
+    length: &mut usize,
+) -> u64
     ensures { λ r. ⌜ ExportsText Import.answer Imports (now (text .entry)) (now (out .entry)) r (now (out .exit)) (now (length .exit)) ⌝ }
 {
     let i = import::import(text, out);
@@ -95,7 +104,11 @@ pub extern "C" fn dilkovan_import(text: &[u8], out: &mut [u8; 32768], length: &m
 
 // `export::export`.
 #[no_mangle]
-pub extern "C" fn dilkovan_export(text: &[u8], out: &mut [u8; 32768], length: &mut usize) -> u64
+pub extern "C" fn dilkovan_export(
+    text: &[u8],
+    out: &mut [u8; ANSWER_BYTES],
+    length: &mut usize,
+) -> u64
     ensures { λ r. ⌜ ExportsText Export.answer Exported.Exports (now (text .entry)) (now (out .entry)) r (now (out .exit)) (now (length .exit)) ⌝ }
 {
     let e = export::export(text, out);
@@ -105,7 +118,11 @@ pub extern "C" fn dilkovan_export(text: &[u8], out: &mut [u8; 32768], length: &m
 
 // `shorten::shorten`.
 #[no_mangle]
-pub extern "C" fn dilkovan_qasm(text: &[u8], out: &mut [u8; 32768], length: &mut usize) -> u64
+pub extern "C" fn dilkovan_qasm(
+    text: &[u8],
+    out: &mut [u8; ANSWER_BYTES],
+    length: &mut usize,
+) -> u64
     ensures { λ r. ⌜ ExportsText Shorten.answer Shortens (now (text .entry)) (now (out .entry)) r (now (out .exit)) (now (length .exit)) ⌝ }
 {
     let s = shorten::shorten(text, out);
