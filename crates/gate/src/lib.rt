@@ -222,13 +222,17 @@ fn told(
     ensures { λ r. ⌜ r ≡ Refusals.firstOf (numbered (failing wires bits code x y z t s) (now (gives .entry))) 0 ⌝ }
 {
     let c = nat(code);
+    let first_off = !inside(x, wires);
+    let second_off = second(c) & !inside(y, wires);
+    let bit_off = bitted(c) & !inside(y, bits);
+    let third_off = third(c) & !inside(z, wires);
     let fails = [
         !from(CODE_X, CODE_MEASURE, c),
         !unused(c, y, z, t),
-        !inside(x, wires),
-        second(c) & !inside(y, wires),
-        bitted(c) & !inside(y, bits),
-        third(c) & !inside(z, wires),
+        first_off,
+        second_off,
+        bit_off,
+        third_off,
         !apart(c, x, y, z),
         negative(s),
     ];

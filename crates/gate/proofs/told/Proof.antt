@@ -15,12 +15,6 @@ use Rattle.gate.proofs.told.Tie as tie
 nat-requires : tie.Need-nat-requires
 nat-requires c κs = search needs
 
-from-requires : tie.Need-from-requires
-from-requires c κs = search needs
-
-unused-requires : tie.Need-unused-requires
-unused-requires c κs = search needs
-
 inside-requires : tie.Need-inside-requires
 inside-requires c κs = search needs
 
@@ -41,6 +35,12 @@ third-requires c κs = search needs
 
 inside-requires-4 : tie.Need-inside-requires-4
 inside-requires-4 c κs = search needs
+
+from-requires : tie.Need-from-requires
+from-requires c κs = search needs
+
+unused-requires : tie.Need-unused-requires
+unused-requires c κs = search needs
 
 apart-requires : tie.Need-apart-requires
 apart-requires c κs = search needs
@@ -68,15 +68,15 @@ returns c =
     ∙ ap (λ (fs : List Bool). firstOf (numbered fs (a .gives .now)) 0)
     (flags-by (a .wires) (a .bits) (toZ w32 (ofZ w32 (a .code))) (toZ w32 (ofZ w32 (a .x))) (toZ w32 (ofZ w32 (a .y))) (toZ w32 (ofZ w32 (a .z))) (toZ w32 (ofZ w32 (a .t))) (toZ w32 (ofZ w32 (a .s))) (c .before .before .before .before .before .before .before .before .before .before .before .before .before .nat .result)
     (c .before .before .before .before .before .before .before .before .before .before .before .before .before .nat .ensures)
-    (c .before .before .before .before .before .before .before .before .before .before .before .before .from .ensures)
-    (c .before .before .before .before .before .before .before .before .before .before .before .unused .ensures)
-    (c .before .before .before .before .before .before .before .before .before .before .inside .ensures)
-    (c .before .before .before .before .before .before .before .before .before .second .ensures)
-    (c .before .before .before .before .before .before .before .before .inside2 .ensures)
-    (c .before .before .before .before .before .before .before .bitted .ensures)
-    (c .before .before .before .before .before .before .inside3 .ensures)
-    (c .before .before .before .before .before .third .ensures)
-    (c .before .before .before .before .inside4 .ensures)
+    (c .before .before .before .before .before .from .ensures)
+    (c .before .before .before .before .unused .ensures)
+    (c .before .before .before .before .before .before .before .before .before .before .before .before .inside .ensures)
+    (c .before .before .before .before .before .before .before .before .before .before .before .second .ensures)
+    (c .before .before .before .before .before .before .before .before .before .before .inside2 .ensures)
+    (c .before .before .before .before .before .before .before .before .before .bitted .ensures)
+    (c .before .before .before .before .before .before .before .before .inside3 .ensures)
+    (c .before .before .before .before .before .before .before .third .ensures)
+    (c .before .before .before .before .before .before .inside4 .ensures)
     (c .before .before .before .apart .ensures)
     (c .before .before .negative .ensures)
     ∙ failing-by (a .wires) (a .bits) code x y z t l)
@@ -86,8 +86,6 @@ told-spec =
     tie.close
     (tie.spec
     nat-requires
-    from-requires
-    unused-requires
     inside-requires
     second-requires
     inside-requires-2
@@ -95,6 +93,8 @@ told-spec =
     inside-requires-3
     third-requires
     inside-requires-4
+    from-requires
+    unused-requires
     apart-requires
     negative-requires
     slice-aggregate-first-of
