@@ -33,7 +33,7 @@ pub struct Tally {
 }
 
 // The gates from `start` on, folded onto an empty block as far as it takes them.
-fn fold_run(
+pub fn fold_run(
     list: &[i32],
     start: usize,
     table: &mut [u32],
