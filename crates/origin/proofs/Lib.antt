@@ -1,0 +1,3 @@
+mod Cases
+pub mod Noting
+pub mod Origins

@@ -1,0 +1,4 @@
+mod Cases
+mod Cutting
+mod Tracing
+mod Imported
