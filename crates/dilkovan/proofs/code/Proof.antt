@@ -25,10 +25,10 @@ unfolding Placed
 place-fits c = rw ((c .before .before .before) .a .given .1) at ((c .before .before .before .before .before) .pre)
 
 mul-result-2 : tie.Need-mul-result-2
-mul-result-2 c = search needs
+mul-result-2 c = record { fits = omega (arith, place-fits c) }
 
 add-result : tie.Need-add-result
-add-result c = search needs
+add-result c = record { fits = omega (arith, place-fits c) }
 
 add-result-2 : tie.Need-add-result-2
 add-result-2 c = record { fits = omega (arith, place-fits c) }
