@@ -15,7 +15,7 @@
  *   4  `out` is shorter than the list                         12  more than 512 gates
  *   5  `terms` or `steps` is too short                        13  (export) a gate that OpenQASM 2.0's text doesn't spell here
  *   6  a code outside 1 to 27
- *   7  an unused field isn't 0                                dilkovan_import and dilkovan_qasm
+ *   7  an unused field isn't 0                                dilkovan_import, dilkovan_qasm and dilkovan_trace
  *   8  a wire out of range                                    10  a text above 16,384 bytes
  *   14 a measure's classical bit out of range                 13  a wrong or missing line
  *   9  the same wire twice in one gate                        12  more than 512 gates; 3  as on the left
@@ -76,6 +76,12 @@ uint64_t dilkovan_list(const uint8_t *text, size_t text_length, uint8_t out[DILK
 uint64_t dilkovan_import(const uint8_t *text, size_t text_length, uint8_t out[DILKOVAN_LIST_BYTES], size_t *length);
 uint64_t dilkovan_export(const uint8_t *text, size_t text_length, uint8_t out[DILKOVAN_LIST_BYTES], size_t *length);
 uint64_t dilkovan_qasm(const uint8_t *text, size_t text_length, uint8_t out[DILKOVAN_LIST_BYTES], size_t *length);
+
+/* Where each gate of the circuit that dilkovan_qasm prints comes from, for people: a line for each, its statement and " // line N", the line of the
+ * text that it was copied from, or " // lines A to B", those of the first and the last gate of the block that was written again. `out` is longer; the
+ * refusals are those of dilkovan_qasm. */
+#define DILKOVAN_TRACE_BYTES (85 * 512)
+uint64_t dilkovan_trace(const uint8_t *text, size_t text_length, uint8_t out[DILKOVAN_TRACE_BYTES], size_t *length);
 
 #ifdef __cplusplus
 }

@@ -2,6 +2,7 @@
 
 Refusals 3, 6 to 9, 14 and 18 of a list, and what the pass makes of it, come from the oracle (target/oracle/oracle, which oracle/build makes from the
 original's text)."""
+import itertools
 import os
 import re
 import struct
@@ -224,11 +225,53 @@ def imported(text):
     return [wires, bits, 128, 512, WIDTH], numbers
 
 
+def cut(gates, qubits=128, terms=512):
+    """The runs that a list of right gates is cut into, by document 01's rules: blocks, and the gates between them. A wire's parity is a set of wires,
+    as the digits of a number. (A qubit cap of 1 would leave some gates of the fragment in no block; here it isn't met.)"""
+    runs, run, held, table = [], [], {}, set()
+    for gate in gates:
+        code, a, b = gate[:3]
+        on = {a, b} if code in (8, 9) else {a}
+        turned = 2 <= code <= 7 and held.get(a, 1 << a) not in table and len(table) >= terms
+        if code > 9 or turned or len(held.keys() | on) > qubits:
+            runs, run, held, table = runs + [run], [], {}, set()
+        if code > 9:
+            runs.append([gate])
+            continue
+        run.append(gate)
+        for q in on - held.keys():
+            held[q] = 1 << q
+        if code == 8:
+            held[b] ^= held[a]
+        elif code == 9:
+            table |= {held[a], held[b], held[a] ^ held[b]}
+        elif code > 1:
+            table.add(held[a])
+    return [run for run in runs + [run] if run]
+
+
+def traced(head, numbers, counts, gates):
+    """Each new gate's statement, with the line that it was copied from or the lines of the block that was written again. A block is as it was where its
+    gates are, line by line: no two statements have one line, and all gates of a new writing have that of the first."""
+    left, lines = rows(list(gates)), []
+    for run in cut(rows(numbers)):
+        if left[: len(run)] == run:
+            notes = [f"line {row[-1]}" for row in run]
+        else:
+            new = itertools.takewhile(lambda row: row[-1] == run[0][-1], left)
+            notes = [f"lines {run[0][-1]} to {run[-1][-1]}" for _ in new]
+        lines += [f"{spelled(row)} // {note}" for row, note in zip(left, notes)]
+        left = left[len(notes) :]
+    assert not left
+    return "".join(f"{line}\n" for line in lines).encode()
+
+
 PROGRAMS = {
     "list": (read_list, listed),
     "import": (imported, lambda head, numbers, counts, gates: list_text(head, numbers)),
     "export": (read_list, lambda head, numbers, counts, gates: qasm_text(head[0], head[1], numbers)),
     "qasm": (imported, lambda head, numbers, counts, gates: qasm_text(head[0], head[1], gates)),
+    "trace": (imported, traced),
 }
 
 
@@ -261,7 +304,7 @@ def wanted(program, texts):
 
 # ---- texts as `texts_main` takes and gives them, and the examples of the decided readings
 
-KINDS = ["list", "import", "export", "qasm"]
+KINDS = ["list", "import", "export", "qasm", "trace"]
 
 
 def packed(text):

@@ -240,11 +240,11 @@ static void large(int32_t *list) {
 
 /* ---- texts */
 
-typedef uint64_t (*Door)(const uint8_t *, size_t, uint8_t[DILKOVAN_LIST_BYTES], size_t *);
+typedef uint64_t (*Door)(const uint8_t *, size_t, uint8_t *, size_t *);
 
 static void call(Door door, const char *name, const char *bytes, size_t size, uint64_t refused, const char *printed) {
     Room in = lend_filled(bytes, size);
-    Room out = lend(DILKOVAN_LIST_BYTES);
+    Room out = lend(door == dilkovan_trace ? DILKOVAN_TRACE_BYTES : DILKOVAN_LIST_BYTES);
     Room length = lend(sizeof(size_t));
     uint64_t told = door(inside(in), size, inside(out), inside(length));
     size_t want = strlen(printed);
@@ -321,12 +321,15 @@ static void laboratories(void) {
     call(dilkovan_import, "import", lab, sizeof lab - 1, 0, ours);
     call(dilkovan_export, "export", ours, sizeof ours - 1, 0, lab);
     call(dilkovan_qasm, "qasm", lab, sizeof lab - 1, 0, OPENING "qreg q[1];\ncreg c[1];\ntdg q[0];\nmeasure q[0] -> c[0];\n");
+    call(dilkovan_trace, "trace", lab, sizeof lab - 1, 0, "tdg q[0]; // lines 5 to 7\nmeasure q[0] -> c[0]; // line 8\n");
     call(dilkovan_import, "import, without its last byte", lab, sizeof lab - 2, 1, "refused 13 8 0\n");
     call(dilkovan_qasm, "qasm, without its last byte", lab, sizeof lab - 2, 1, "refused 13 8 0\n");
+    call(dilkovan_trace, "trace, without its last byte", lab, sizeof lab - 2, 1, "refused 13 8 0\n");
     call(dilkovan_export, "export, without its last byte", ours, sizeof ours - 2, 1, "refused 11 11 0\n");
     call(dilkovan_import, "import, no bytes", lab, 0, 1, "refused 13 1 0\n");
     call(dilkovan_export, "export, no bytes", lab, 0, 1, "refused 11 1 0\n");
     call(dilkovan_qasm, "qasm, no bytes", lab, 0, 1, "refused 13 1 0\n");
+    call(dilkovan_trace, "trace, no bytes", lab, 0, 1, "refused 13 1 0\n");
     call(dilkovan_export, "export, a swap", swap, sizeof swap - 1, 1, "refused 13 1 0\n");
     /* 512 gates in the longest statements of one number and a turn; 513; and as many bytes as may be, and one more */
     size_t n = statements(bytes, "rz(-2147483648*pi/4) q[0];", 512), m = (size_t)sprintf(printed, "head 5\n1\n0\n128\n512\n6\ngates 512\n");
@@ -335,7 +338,13 @@ static void laboratories(void) {
     call(dilkovan_import, "import, 512 gates", bytes, n, 0, printed);
     call(dilkovan_export, "export, 512 gates", printed, m, 0, (bytes[n] = 0, bytes));
     call(dilkovan_qasm, "qasm, 512 gates that are no turn", bytes, n, 0, OPENING "qreg q[1];\n");
+    call(dilkovan_trace, "trace, 512 gates that are no turn", bytes, n, 0, "");
+    n = statements(bytes, "rz(-2147483647*pi/4) q[0];\nh q[0];", 256), m = 0;
+    for (int i = 0; i < 512; i++)
+        m += (size_t)sprintf(printed + m, i % 2 ? "h q[0]; // line %d\n" : "rz(-2147483647*pi/4) q[0]; // line %d\n", 4 + i);
+    call(dilkovan_trace, "trace, 512 gates that are copied", bytes, n, 0, printed);
     n = statements(bytes, "x q[0];", 513);
+    call(dilkovan_trace, "trace, 513 gates", bytes, n, 1, "refused 12 0 0\n");
     call(dilkovan_import, "import, 513 gates", bytes, n, 1, "refused 12 0 0\n");
     call(dilkovan_qasm, "qasm, 513 gates", bytes, n, 1, "refused 12 0 0\n");
     memset(bytes, 'x', sizeof bytes);
@@ -343,6 +352,7 @@ static void laboratories(void) {
     call(dilkovan_import, "import, 16,385 bytes", bytes, LONGEST + 1, 1, "refused 10 0 0\n");
     call(dilkovan_export, "export, 16,385 bytes", bytes, LONGEST + 1, 1, "refused 10 0 0\n");
     call(dilkovan_qasm, "qasm, 16,385 bytes", bytes, LONGEST + 1, 1, "refused 10 0 0\n");
+    call(dilkovan_trace, "trace, 16,385 bytes", bytes, LONGEST + 1, 1, "refused 10 0 0\n");
 }
 
 int main(void) {

@@ -2,6 +2,7 @@
 use cnot_min::Answer;
 use cnot_min::Counts;
 use spelling::ANSWER_BYTES;
+use trace::TRACE_BYTES;
 ghost use mathlib.Core.Bool.{cond};
 ghost use mathlib.Core.Path.{_≡_};
 ghost use Rattle.cnot_min.specs.Minimizing.{told, counted};
@@ -13,6 +14,8 @@ ghost use Rattle.export.specs.Answer as Export;
 ghost use Rattle.export.specs.Contracts as Exported;
 ghost use Rattle.shorten.specs.Answer as Shorten;
 ghost use Rattle.shorten.specs.Contracts.{Shortens};
+ghost use Rattle.trace.specs.Answer as Trace;
+ghost use Rattle.trace.specs.Contracts.{Traces};
 ghost use Rattle.dilkovan.specs.Doors.{coded, listed, Exports, ExportsText, Placed};
 
 // 0 where it is done; else the refusal's field * 2^48 + its number * 2^32 + its place.
@@ -128,4 +131,18 @@ pub extern "C" fn dilkovan_qasm(
     let s = shorten::shorten(text, out);
     *length = s.length;
     flag(s.refused)
+}
+
+// `trace::trace`.
+#[no_mangle]
+pub extern "C" fn dilkovan_trace(
+    text: &[u8],
+    out: &mut [u8; TRACE_BYTES],
+    length: &mut usize,
+) -> u64
+    ensures { λ r. ⌜ ExportsText Trace.answer Traces (now (text .entry)) (now (out .entry)) r (now (out .exit)) (now (length .exit)) ⌝ }
+{
+    let t = trace::trace(text, out);
+    *length = t.length;
+    flag(t.refused)
 }

@@ -1,12 +1,14 @@
 // Reads texts, each as two little-endian numbers of 32 bits, its kind and its length, and its bytes; and writes what the program of that kind
-// prints for each, as its length and its bytes. The kinds: 0 list, 1 import, 2 export, 3 qasm. It stops where the input ends.
+// prints for each, as its length and its bytes. The kinds: 0 list, 1 import, 2 export, 3 qasm, 4 trace. It stops where the input ends.
 use libc::STDIN_FILENO;
 use libc::STDOUT_FILENO;
 use spelling::ANSWER_BYTES;
 use spelling::LIST_BYTES;
+use trace::TRACE_BYTES;
 ghost use Prim.Native.Nat.{_+_, _≤_, _<_};
 ghost use lib.ListN.{length};
 ghost use Rattle.spelling.specs.Sizes.{answerBytes};
+ghost use Rattle.trace.specs.Contracts.{traceBytes};
 
 // One byte more than a text may have: of a longer one no more is kept.
 const MOST: usize = LIST_BYTES + 1;
@@ -71,6 +73,24 @@ fn put(bytes: &[u8], buffer: &mut [u8], at: usize)
     }
 }
 
+// Some bytes, their length first, go behind what waits.
+fn keep(bytes: &[u8], buffer: &mut [u8], used: usize) -> usize
+    requires { ⌜ (used ≤ length (now buffer)) × (length (now bytes) + 4 ≤ length (now buffer)) ⌝ }
+    ensures { λ r. ⌜ r ≤ length (now (buffer .exit)) ⌝ }
+{
+    let n = bytes.len();
+    let at = spare(&*buffer, used, n + 4);
+    let head = [
+        (n % 256) as u8,
+        (n / 256 % 256) as u8,
+        (n / 65536 % 256) as u8,
+        0,
+    ];
+    put(&head, &mut *buffer, at);
+    put(bytes, buffer, at + 4);
+    at + (n + 4)
+}
+
 // What the program of a kind prints: how many bytes. A number that is no kind is taken for the last.
 fn said(kind: u32, text: &[u8], out: &mut [u8; ANSWER_BYTES]) -> usize
     ensures { λ r. ⌜ (r ≤ length (now (out .entry))) × (r ≤ length (now (out .exit))) ⌝ }
@@ -86,23 +106,40 @@ fn said(kind: u32, text: &[u8], out: &mut [u8; ANSWER_BYTES]) -> usize
     }
 }
 
-// The answer to a text goes behind what waits.
 fn answer(kind: u32, text: &[u8], buffer: &mut [u8], used: usize) -> usize
     requires { ⌜ (used ≤ length (now buffer)) × (answerBytes + 4 ≤ length (now buffer)) ⌝ }
     ensures { λ r. ⌜ r ≤ length (now (buffer .exit)) ⌝ }
 {
     let mut out = [0u8; ANSWER_BYTES];
     let n = said(kind, text, &mut out);
-    let at = spare(&*buffer, used, n + 4);
-    let head = [(n % 256) as u8, (n / 256 % 256) as u8, 0, 0];
-    put(&head, &mut *buffer, at);
-    put(&out[..n], buffer, at + 4);
-    at + (n + 4)
+    keep(&out[..n], buffer, used)
+}
+
+// Its answers are longer.
+fn traced(text: &[u8], buffer: &mut [u8], used: usize) -> usize
+    requires { ⌜ (used ≤ length (now buffer)) × (traceBytes + 4 ≤ length (now buffer)) ⌝ }
+    ensures { λ r. ⌜ r ≤ length (now (buffer .exit)) ⌝ }
+{
+    let mut out = [0u8; TRACE_BYTES];
+    let n = trace::trace(text, &mut out).length;
+    keep(&out[..n], buffer, used)
+}
+
+// The answer to a text goes behind what waits.
+fn told(kind: u32, text: &[u8], buffer: &mut [u8], used: usize) -> usize
+    requires { ⌜ (used ≤ length (now buffer)) × (traceBytes + 4 ≤ length (now buffer)) ⌝ }
+    ensures { λ r. ⌜ r ≤ length (now (buffer .exit)) ⌝ }
+{
+    if kind == 4 {
+        traced(text, buffer, used)
+    } else {
+        answer(kind, text, buffer, used)
+    }
 }
 
 // One text, if there is one.
 fn next(buffer: &mut [u8], used: usize) -> Step
-    requires { ⌜ (used ≤ length (now buffer)) × (answerBytes + 4 ≤ length (now buffer)) ⌝ }
+    requires { ⌜ (used ≤ length (now buffer)) × (traceBytes + 4 ≤ length (now buffer)) ⌝ }
     ensures { λ r. ⌜ r .used ≤ length (now (buffer .exit)) ⌝ }
 {
     let mut head = [0u8; 8];
@@ -121,7 +158,7 @@ fn next(buffer: &mut [u8], used: usize) -> Step
     }
     Step {
         more: true,
-        used: answer(kind, &text[..k], buffer, used),
+        used: told(kind, &text[..k], buffer, used),
     }
 }
 
@@ -134,7 +171,7 @@ fn left(rounds: u64, more: bool) -> u64
 }
 
 fn run(buffer: &mut [u8])
-    requires { ⌜ answerBytes + 4 ≤ length (now buffer) ⌝ }
+    requires { ⌜ traceBytes + 4 ≤ length (now buffer) ⌝ }
 {
     let mut used = 0;
     let mut rounds = u64::MAX;
@@ -147,6 +184,6 @@ fn run(buffer: &mut [u8])
 }
 
 fn main() {
-    let mut buffer = [0u8; 2 * ANSWER_BYTES];
+    let mut buffer = [0u8; 2 * TRACE_BYTES];
     run(&mut buffer);
 }

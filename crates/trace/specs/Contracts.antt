@@ -12,9 +12,11 @@ use Rattle.rules.specs.Scan.{Piece, piecesOf}
 use Rattle.spelling.specs.Sizes.{listGates}
 use Rattle.spelling.specs.Texts.{Head}
 use Rattle.saying.specs.Answer.{exact}
-use Rattle.saying.specs.Contracts.{Few}
+use Rattle.saying.specs.Contracts.{Few, Says}
+use Rattle.saying.specs.declared.Said.{Said}
 use Rattle.scan.specs.Scanning.{gatesIn, run, rest}
 use Rattle.origin.specs.Contracts.{originSize}
+use Rattle.trace.specs.Answer.{answer}
 
 -- bytes of the room for an answer: a line for each of the most gates. It holds a refusal too
 abbrev pub traceBytes : ℕ
@@ -37,3 +39,7 @@ pub record Cuts (p : Plan) (l : List ℤ) (i j : ℕ) : Type 0 where
   pub piece : Piece
   pub splits : piecesOf p (rest l i) ≡ piece ∷ piecesOf p (rest l j)
   pub alone : piecesOf p (run l i j) ≡ piece ∷ []
+
+-- every text is answered by the definition's bytes. Wrong: a gate's line told one late; a block that is kept told as written again
+abbrev pub Traces : List ℕ → List ℕ → Said → List ℕ → Type 0
+Traces text room r room′ = Says (answer text) room r room′

@@ -28,7 +28,7 @@ ghost use Rattle.scan.specs.Scanning.{gatesIn};
 ghost use Rattle.origin.specs.Origins.{origins, originsText, lastLine};
 ghost use Rattle.origin.specs.Contracts.{originSize};
 ghost use Rattle.trace.specs.Answer as Paper;
-ghost use Rattle.trace.specs.Contracts.{traceBytes, Right, Single, Cuts};
+ghost use Rattle.trace.specs.Contracts.{traceBytes, Right, Single, Cuts, Traces};
 
 // Bytes of the room for an answer.
 pub const TRACE_BYTES: usize = ORIGIN_BYTES * LIST_GATES;
@@ -136,7 +136,7 @@ fn answer(text: &[u8], out: &mut [u8]) -> Said
 
 // Every text gets an answer.
 pub fn trace(text: &[u8], out: &mut [u8; TRACE_BYTES]) -> Said
-    ensures { λ r. ⌜ Says (Paper.answer (now (text .entry))) (now (out .entry)) r (now (out .exit)) ⌝ }
+    ensures { λ r. ⌜ Traces (now (text .entry)) (now (out .entry)) r (now (out .exit)) ⌝ }
 {
     answer(text, out)
 }

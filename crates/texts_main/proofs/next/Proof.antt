@@ -72,11 +72,11 @@ returns-3 c = search needs
 array-share-prefix-text : tie.Need-array-share-prefix-text
 array-share-prefix-text c = search needs
 
-slice-aggregate-answer : tie.Need-slice-aggregate-answer
-slice-aggregate-answer c = sym (length-take-le _ _ (omega (arith, c .before .before .before .before .before .before .before .least .ensures .1, c .before .before .before .before .before .fill2 .kept .0)))
+slice-aggregate-told : tie.Need-slice-aggregate-told
+slice-aggregate-told c = sym (length-take-le _ _ (omega (arith, c .before .before .before .before .before .before .before .least .ensures .1, c .before .before .before .before .before .fill2 .kept .0)))
 
-answer-requires : tie.Need-answer-requires
-answer-requires c κs = search needs
+told-requires : tie.Need-told-requires
+told-requires c κs = search needs
 
 same-length : tie.Need-same-length
 same-length c = search needs
@@ -110,7 +110,7 @@ next-spec =
     skip-requires
     returns-3
     array-share-prefix-text
-    slice-aggregate-answer
-    answer-requires
+    slice-aggregate-told
+    told-requires
     same-length
     returns-4)
