@@ -8,11 +8,13 @@ use rest::*;
 mod circuit;
 mod cnot_min;
 mod gates;
+mod paint;
 mod random;
 
 use circuit::Circuit;
 use gates::{FIELDS, WIDTH};
 use random::Random;
+use paint::deepest;
 use std::hint::black_box;
 use std::time::Instant;
 
@@ -205,27 +207,11 @@ fn compare(name: &str, lists: &[List], wires: usize, qubits: usize, terms: usize
     println!("| {name} | {g} | {ours:.1} | {theirs:.1} | {:.2} | {:.1} |", ours / theirs, ours * 1000.0 / g as f64);
 }
 
-const DEPTH: usize = 1 << 18;
-
-/// The stack below a frame is painted, the port runs, and what it left of the paint tells how deep it went.
-#[inline(never)]
-fn depth_of(list: &[i32], wires: usize) -> usize {
-    let mut rooms = Rooms::of(list);
-    let here = 0u8;
-    let base = &raw const here as usize;
-    for at in base - DEPTH..base - 512 {
-        unsafe { std::ptr::write_volatile(at as *mut u8, 0xa5) }
-    }
-    rooms.run(list, wires, 128, 512);
-    let kept = (base - DEPTH..base).take_while(|&at| unsafe { std::ptr::read_volatile(at as *const u8) } == 0xa5).count();
-    DEPTH - kept
-}
-
-/// The deepest stack that a call of the port uses, on a thread whose stack is there as a whole.
-fn depth(lists: Vec<(List, usize)>) -> usize {
-    let thread = std::thread::Builder::new().stack_size(4 * DEPTH);
-    let worker = thread.spawn(move || lists.iter().map(|(list, wires)| depth_of(list, *wires)).max().unwrap_or(0));
-    worker.unwrap().join().unwrap()
+/// A call of the port, for its stack.
+fn call(list: List, wires: usize) -> Box<dyn Fn() + Send> {
+    Box::new(move || {
+        Rooms::of(&list).run(&list, wires, 128, 512);
+    })
 }
 
 fn main() {
@@ -250,7 +236,7 @@ fn main() {
         compare(&format!("growth: {wires} wires, 30 %, 4,096 gates"), &several(&|s| dense(s, 4096, wires, 30)), wires, 128, 512);
     }
     compare("term cap 24,576, 128 wires, 30 %", &several(&|s| dense(s, 8192, 128, 30)), 128, 128, 24576);
-    let lists = vec![(dense(1, 8192, 128, 30), 128), (t_wall(8192, 128), 128), (cz_only(1, 8192, 128), 128), (dense(1, 8192, 1024, 60), 1024), (fourier(8192, 90), 90)];
+    let calls = vec![call(dense(1, 8192, 128, 30), 128), call(t_wall(8192, 128), 128), call(cz_only(1, 8192, 128), 128), call(dense(1, 8192, 1024, 60), 1024), call(fourier(8192, 90), 90)];
     println!();
-    println!("Deepest stack of a call on the lists above: {} bytes.", depth(lists));
+    println!("Deepest stack of a call on the lists above: {} bytes.", deepest(calls));
 }
