@@ -19,16 +19,21 @@ ghost use mathlib.Core.Bool.{true};
 ghost use Prim.Native.Nat.{_+_, _*_, _≤_, _<_};
 ghost use lib.ListN.{length};
 ghost use Rattle.flow.specs.Flowing.{Held};
-ghost use Rattle.batch_main.specs.Cases.{mostGates, mostNumbers, Small, Taken};
+ghost use Rattle.batch_main.specs.Cases.{mostGates, mostNumbers, mostTerms, mostSteps, Small, Taken};
 
-// A little more than 8,192 gates, and the rooms that so many need.
-const MOST_GATES: usize = 8200;
+// Some more than 8,192 gates, and the rooms that so many need. A list of 65,536 and its rooms would be more than the usual stack.
+const MOST_GATES: usize = 10900;
 
 const MOST_NUMBERS: usize = GATE_WIDTH * MOST_GATES;
 
-const MOST_TERMS: usize = 74000;
+const MOST_TERMS: usize = TERM_WIDTH * (GATE_TERMS * MOST_GATES);
 
-const MOST_STEPS: usize = 17000;
+const MOST_STEPS: usize = STEP_WIDTH * (MOST_GATES + MAX_COLUMNS);
+
+// Bytes that wait to be read, at least a case's, and to be written.
+const INPUT: usize = 262144;
+
+const OUTPUT: usize = 65536;
 
 const HEAD: usize = 72;
 
@@ -273,7 +278,7 @@ fn solve(
     used: usize,
 ) -> usize
     requires { ⌜ Small c × (4 * c .list ≤ length (now bytes)) ⌝ }
-    requires { ⌜ (mostNumbers ≤ length (now list)) × ((mostNumbers ≤ length (now out)) × ((74000 ≤ length (now terms)) × (17000 ≤ length (now steps)))) ⌝ }
+    requires { ⌜ (mostNumbers ≤ length (now list)) × ((mostNumbers ≤ length (now out)) × ((mostTerms ≤ length (now terms)) × (mostSteps ≤ length (now steps)))) ⌝ }
     requires { ⌜ (used ≤ length (now output)) × (4 ≤ length (now output)) ⌝ }
     ensures { λ r. ⌜ r ≤ length (now (output .entry)) ⌝ }
 {
@@ -301,7 +306,7 @@ fn next(
     f: Flow,
 ) -> Flow
     requires { ⌜ Held f (length (now input)) (length (now output)) × (0 < f .left) ⌝ }
-    requires { ⌜ (mostNumbers ≤ length (now list)) × ((mostNumbers ≤ length (now out)) × ((74000 ≤ length (now terms)) × (17000 ≤ length (now steps)))) ⌝ }
+    requires { ⌜ (mostNumbers ≤ length (now list)) × ((mostNumbers ≤ length (now out)) × ((mostTerms ≤ length (now terms)) × (mostSteps ≤ length (now steps)))) ⌝ }
     requires { ⌜ 4 ≤ length (now output) ⌝ }
     ensures { λ r. ⌜ Held r (length (now (input .entry))) (length (now (output .entry))) × (r .left < f .left) ⌝ }
 {
@@ -323,12 +328,12 @@ fn next(
 }
 
 fn main() {
-    let mut input = [0u8; 262144];
+    let mut input = [0u8; INPUT];
     let mut list = [0i32; MOST_NUMBERS];
     let mut out = [0i32; MOST_NUMBERS];
     let mut terms = [0u64; MOST_TERMS];
     let mut steps = [0u32; MOST_STEPS];
-    let mut output = [0u8; 65536];
+    let mut output = [0u8; OUTPUT];
     let mut f = Flow {
         at: 0,
         end: 0,

@@ -5,12 +5,12 @@ use borrow.Author.Needs.{needs}
 use lib.ListN.{length}
 use lib.Seq.{length-take-le}
 use Rattle.flow.specs.Flowing.{Held}
-use Rattle.batch_main.specs.Cases.{mostNumbers}
+use Rattle.batch_main.specs.Cases.{mostNumbers, mostTerms, mostSteps, inputBytes, outputBytes}
 use Rattle.batch_main.proofs.main.Statement.{statement}
 use Rattle.batch_main.proofs.main.Tie as tie
 
 abbrev Inv-loop : tie.InvT-loop
-Inv-loop input₀ list₀ out₀ terms₀ steps₀ output₀ f₀ input list out terms steps output f = Held f 262144 65536 × ((262144 ≡ length input) × ((mostNumbers ≡ length list) × ((mostNumbers ≡ length out) × ((74000 ≡ length terms) × ((17000 ≡ length steps) × (65536 ≡ length output))))))
+Inv-loop input₀ list₀ out₀ terms₀ steps₀ output₀ f₀ input list out terms steps output f = Held f inputBytes outputBytes × ((inputBytes ≡ length input) × ((mostNumbers ≡ length list) × ((mostNumbers ≡ length out) × ((mostTerms ≡ length terms) × ((mostSteps ≡ length steps) × (outputBytes ≡ length output))))))
 
 abbrev μ-loop : tie.MeasureT-loop
 μ-loop input₀ list₀ out₀ terms₀ steps₀ output₀ f₀ input list out terms steps output f = f .left
