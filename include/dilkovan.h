@@ -10,15 +10,15 @@
  *
  *   dilkovan_cnot_min                                        dilkovan_list and dilkovan_export
  *   1  the list's length is no multiple of DILKOVAN_WIDTH     3, 6 to 9, 14, 18  as on the left
- *   2  more than 8,192 gates                                  10  a text above 16,384 bytes
- *   3  more than 1,024 wires or classical bits                11  a malformed, missing or surplus line
- *   4  `out` is shorter than the list                         12  more than 512 gates
+ *   2  more than 65,536 gates                                 10  a text above 32,768 bytes
+ *   3  more than 4,096 wires or 1,024 classical bits          11  a malformed, missing or surplus line
+ *   4  `out` is shorter than the list                         12  more than 896 gates
  *   5  `terms` or `steps` is too short                        13  (export) a gate that OpenQASM 2.0's text doesn't spell here
  *   6  a code outside 1 to 27
  *   7  an unused field isn't 0                                dilkovan_import, dilkovan_qasm and dilkovan_trace
- *   8  a wire out of range                                    10  a text above 16,384 bytes
+ *   8  a wire out of range                                    10  a text above 32,768 bytes
  *   14 a measure's classical bit out of range                 13  a wrong or missing line
- *   9  the same wire twice in one gate                        12  more than 512 gates; 3  as on the left
+ *   9  the same wire twice in one gate                        12  more than 896 gates; 3  as on the left
  *   18 a negative line
  *
  * In this order; 8 and 14 as the fields stand. The place is the gate's index from 0 for 6 to 9, 14, 18 and export's 13, the line's number from 1 for
@@ -60,7 +60,7 @@ uint64_t dilkovan_cnot_min(const int32_t *list, size_t list_length, size_t wires
                            size_t steps_length, uint64_t counts[8]);
 
 /* The bytes that `out` of the functions below must have: the longest answer fits. */
-#define DILKOVAN_LIST_BYTES (12 * DILKOVAN_WIDTH * 512 + 256)
+#define DILKOVAN_LIST_BYTES (12 * DILKOVAN_WIDTH * 896 + 256)
 
 /* Shortens the circuit of a list's text, as `./dilkovan list` does.
  *
@@ -79,7 +79,7 @@ uint64_t dilkovan_qasm(const uint8_t *text, size_t text_length, uint8_t out[DILK
 /* Where each gate of the circuit that dilkovan_qasm prints comes from, for people: a line for each, its statement and " // line N", the line of the
  * text that it was copied from, or " // lines A to B", those of the first and the last gate of the block that was written again. `out` is longer; the
  * refusals are those of dilkovan_qasm. The deepest stack measured: 85,087 bytes. */
-#define DILKOVAN_TRACE_BYTES (85 * 512)
+#define DILKOVAN_TRACE_BYTES (85 * 896)
 uint64_t dilkovan_trace(const uint8_t *text, size_t text_length, uint8_t out[DILKOVAN_TRACE_BYTES], size_t *length);
 
 #ifdef __cplusplus

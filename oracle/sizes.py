@@ -1,4 +1,4 @@
 """The numbers that the scripts beside this file share: numbers to a gate, without and with its line, a list's limits, and those of the programs' texts."""
 FIELDS, WIDTH = 5, 6
-MOST_WIRES, MOST_BITS = 1024, 1024
-MOST_BYTES, MOST_GATES = 16384, 512
+MOST_WIRES, MOST_BITS = 4096, 1024
+MOST_BYTES, MOST_GATES = 32768, 896

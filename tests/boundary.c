@@ -9,8 +9,8 @@
 #include <string.h>
 
 #define GUARD 64
-#define MOST 8193 /* gates */
-#define LONGEST 16384 /* bytes of a text */
+#define MOST 65536 /* gates */
+#define LONGEST 32768 /* bytes of a text */
 
 static size_t guard, calls, compared;
 
@@ -126,7 +126,9 @@ static void rooms(void) {
     numbers(c, 0, one, three_counts);
     c = (Call){"longer rooms", three, 18, 1, 0, 128, 512, 9, 8, 7};
     numbers(c, 0, one, three_counts);
-    c = (Call){"the largest head", three, 18, 1024, 1024, SIZE_MAX, SIZE_MAX, 1, 1, 1};
+    c = (Call){"the largest head", three, 18, 4096, 1024, SIZE_MAX, SIZE_MAX, 1, 1, 1};
+    numbers(c, 0, one, three_counts);
+    c = (Call){"one wire and one bit less", three, 18, 4095, 1023, SIZE_MAX, SIZE_MAX, 1, 1, 1};
     numbers(c, 0, one, three_counts);
     c = (Call){"caps of 0", three, 18, 1, 0, 0, 0, 0, 0, 0};
     numbers(c, 0, one, three_counts);
@@ -140,7 +142,7 @@ static void rooms(void) {
     numbers(c, REFUSED(4, 0), NULL, none);
     c = (Call){"no room at all", three, 18, 1, 0, 128, 512, -18, -27, -262};
     numbers(c, REFUSED(4, 0), NULL, none);
-    c = (Call){"3 before 4 and 5", three, 18, 1025, 0, 128, 512, -1, -1, -1};
+    c = (Call){"3 before 4 and 5", three, 18, 4097, 0, 128, 512, -1, -1, -1};
     numbers(c, REFUSED(3, 0), NULL, none);
     c = (Call){"no gates", three, 0, 0, 0, 128, 512, 0, 0, 0};
     numbers(c, 0, one, none);
@@ -164,13 +166,17 @@ static void refusals(int32_t *list) {
         Call c = {"1: no multiple of 6", three, length, 1, 0, 128, 512, 0, 0, 0};
         numbers(c, REFUSED(1, 0), NULL, none);
     }
-    for (size_t i = 0; i < DILKOVAN_WIDTH * MOST; i++)
+    for (size_t i = 0; i < DILKOVAN_WIDTH * (MOST + 1); i++)
         list[i] = i % DILKOVAN_WIDTH == 0 ? 2 : 0;
-    Call c = {"2: 8,193 gates", list, DILKOVAN_WIDTH * MOST, 1, 0, 128, 512, 0, 0, 0};
+    Call c = {"2: 65,537 gates", list, DILKOVAN_WIDTH * (MOST + 1), 1, 0, 128, 512, 0, 0, 0};
     numbers(c, REFUSED(2, 0), NULL, none);
-    c = (Call){"3: wires", three, 18, 1025, 0, 128, 512, 0, 0, 0};
+    c = (Call){"2 before 3", list, DILKOVAN_WIDTH * (MOST + 1), 4097, 1025, 128, 512, 0, 0, 0};
+    numbers(c, REFUSED(2, 0), NULL, none);
+    c = (Call){"3: wires", three, 18, 4097, 0, 128, 512, 0, 0, 0};
     numbers(c, REFUSED(3, 0), NULL, none);
     c = (Call){"3: bits", three, 18, 1, 1025, 128, 512, 0, 0, 0};
+    numbers(c, REFUSED(3, 0), NULL, none);
+    c = (Call){"3: bits, of which there may be fewer than wires", three, 18, 4096, 1025, 128, 512, 0, 0, 0};
     numbers(c, REFUSED(3, 0), NULL, none);
     gate("6: code 0", 6, 0, 0, 0, 0, 0, 0);
     gate("6: code 28", 6, 0, 28, 0, 0, 0, 0);
@@ -191,33 +197,40 @@ static void refusals(int32_t *list) {
     static const int32_t negative[] = {2, 0, 0, 0, 0, 4, 2, 0, 0, 0, 0, -1, 28, 0, 0, 0, 0, 0};
     c = (Call){"18: a negative line", negative, 18, 1, 0, 128, 512, 0, 0, 0};
     numbers(c, REFUSED(18, 1), NULL, none);
-    list[DILKOVAN_WIDTH * (MOST - 2)] = 28;
-    c = (Call){"6: the last of 8,192 gates", list, DILKOVAN_WIDTH * (MOST - 1), 1, 0, 128, 512, 0, 0, 0};
-    numbers(c, REFUSED(6, MOST - 2), NULL, none);
+    list[DILKOVAN_WIDTH * (MOST - 1)] = 28;
+    c = (Call){"6: the last of 65,536 gates", list, DILKOVAN_WIDTH * MOST, 1, 0, 128, 512, 0, 0, 0};
+    numbers(c, REFUSED(6, MOST - 1), NULL, none);
+    int32_t last[6] = {2, 4095, 0, 0, 0, 0};
+    c = (Call){"the last of 4,096 wires", last, 6, 4096, 0, 128, 512, 0, 0, 0};
+    numbers(c, 0, last, (uint64_t[]){1, 1, 0, 0, 1, 1, 1, 0});
+    c = (Call){"8: the last of 4,096 wires, on 4,095", last, 6, 4095, 0, 128, 512, 0, 0, 0};
+    numbers(c, REFUSED_AT(8, 0, 1), NULL, none);
 }
 
-/* Lists of 8,192 gates. */
+/* Lists of 65,536 gates, and of one less. */
 static void large(int32_t *list) {
-    size_t g = MOST - 1;
+    size_t g = MOST;
     memset(list, 0, DILKOVAN_WIDTH * g * sizeof *list);
     for (size_t i = 0; i < g; i++)
         list[DILKOVAN_WIDTH * i] = 2;
-    Call c = {"8,192 times t", list, DILKOVAN_WIDTH * g, 1, 0, 128, 512, 0, 0, 0};
+    Call c = {"65,536 times t", list, DILKOVAN_WIDTH * g, 1, 0, 128, 512, 0, 0, 0};
     numbers(c, 0, list, (uint64_t[]){g, 0, 0, 0, g, 0, 1, 1});
+    c = (Call){"65,535 times t", list, DILKOVAN_WIDTH * (g - 1), 1, 0, 128, 512, 0, 0, 0};
+    numbers(c, 0, (int32_t[]){3, 0, 0, 0, 0, 0}, (uint64_t[]){g - 1, 1, 0, 0, g - 1, 1, 1, 1});
     for (size_t i = 0; i < g; i++)
         list[DILKOVAN_WIDTH * i] = 10;
-    c = (Call){"8,192 times h", list, DILKOVAN_WIDTH * g, 1, 0, 128, 512, 3, 3, 3};
+    c = (Call){"65,536 times h", list, DILKOVAN_WIDTH * g, 1, 0, 128, 512, 3, 3, 3};
     numbers(c, 0, list, (uint64_t[]){g, g, 0, 0, 0, 0, 0, 0});
-    /* a cz on every pair of 128 wires, and some t: one block of 8,256 terms. Its result isn't given here, only its rooms are looked at */
-    size_t i = 0;
+    /* a cz on every pair of 128 wires, and some t: 8,192 gates, one block of 8,256 terms. Its result isn't given here, only its rooms are looked at */
+    size_t i = 0, pairs = 8192;
     for (int32_t a = 0; a < 128; a++)
         for (int32_t b = 0; b < a; b++, i++)
             list[DILKOVAN_WIDTH * i] = 9, list[DILKOVAN_WIDTH * i + 1] = a, list[DILKOVAN_WIDTH * i + 2] = b;
-    for (; i < g; i++)
+    for (; i < pairs; i++)
         list[DILKOVAN_WIDTH * i] = 2, list[DILKOVAN_WIDTH * i + 1] = (int32_t)(i % 128);
-    c = (Call){"8,192 gates, cz on every pair", list, DILKOVAN_WIDTH * g, 128, 0, 128, SIZE_MAX, 0, 0, 0};
+    c = (Call){"cz on every pair", list, DILKOVAN_WIDTH * pairs, 128, 0, 128, SIZE_MAX, 0, 0, 0};
     numbers(c, 0, NULL, none);
-    /* x, t, tdg, rz, cnot and cz as a simple generator has them, on more wires than a block takes; the result isn't given either */
+    /* x, t, tdg, rz, cnot and cz as a simple generator has them, on 4,096 wires, more than a block takes; the result isn't given either */
     uint32_t state = 1;
     for (i = 0; i < g; i++) {
         static const int32_t codes[] = {1, 2, 7, 8, 8, 8, 9, 3};
@@ -226,15 +239,15 @@ static void large(int32_t *list) {
             state = state * 1664525 + 1013904223, draw[k] = (int32_t)(state >> 20);
         memset(at, 0, DILKOVAN_WIDTH * sizeof *at);
         at[0] = codes[draw[0] % 8];
-        at[1] = draw[1] % 256;
+        at[1] = draw[1] % 4096;
         if (at[0] == 7)
             at[4] = draw[2] - 2048;
         else if (at[0] > 7)
-            at[2] = (at[1] + 1 + draw[2] % 255) % 256;
+            at[2] = (at[1] + 1 + draw[2] % 4095) % 4096;
     }
-    c = (Call){"8,192 mixed gates", list, DILKOVAN_WIDTH * g, 256, 0, 128, 512, 0, 0, 0};
+    c = (Call){"65,536 mixed gates", list, DILKOVAN_WIDTH * g, 4096, 0, 128, 512, 0, 0, 0};
     numbers(c, 0, NULL, none);
-    c = (Call){"8,192 mixed gates, longer rooms", list, DILKOVAN_WIDTH * g, 256, 0, 128, 512, 11, 11, 11};
+    c = (Call){"65,536 mixed gates, longer rooms", list, DILKOVAN_WIDTH * g, 4096, 0, 128, 512, 11, 11, 11};
     numbers(c, 0, NULL, none);
 }
 
@@ -260,7 +273,7 @@ static void text(const char *name, const char *bytes, size_t size, uint64_t refu
     call(dilkovan_list, name, bytes, size, refused, printed);
 }
 
-#define HEAD "head 4\n1024\n0\n128\n512\n"
+#define HEAD "head 4\n4096\n0\n128\n512\n"
 
 /* `gates` of so many times this line */
 static size_t repeated(char *to, const char *line, int gates) {
@@ -276,31 +289,35 @@ static void texts(void) {
     text("document 01's example", example, sizeof example - 1, 0, "head 4\n1\n0\n128\n512\ngates 1\n4 0 0 0 0\ncounts 8\n2\n1\n0\n0\n2\n0\n1\n1\n");
     text("without its last byte", example, sizeof example - 2, 1, "refused 11 8 0\n");
     text("no bytes", example, 0, 1, "refused 11 1 0\n");
-    text("3", "head 4\n1025\n0\n1\n1\ngates 0\n", 26, 1, "refused 3 0 0\n");
+    text("3", "head 4\n4097\n0\n1\n1\ngates 0\n", 26, 1, "refused 3 0 0\n");
     text("14", "head 4\n1\n1\n1\n1\ngates 1\n27 0 1 0 0\n", 34, 1, "refused 14 0 2\n");
     text("no gates", "head 4\n0\n0\n0\n0\ngates 0\n", 23, 0, "head 4\n0\n0\n0\n0\ngates 0\ncounts 8\n0\n0\n0\n0\n0\n0\n0\n0\n");
-    /* 512 gates that are copied, in the longest lines that are taken */
-    size_t n = repeated(bytes, "23 1023 1022 0 -2147483648", 512);
-    sprintf(printed, "%.*scounts 8\n512\n512\n0\n0\n0\n0\n0\n0\n", (int)n, bytes);
-    text("512 long lines", bytes, n, 0, printed);
+    /* 895 and 896 gates that are copied, in the longest lines that are taken */
+    size_t n;
+    for (int gates = 895; gates < 897; gates++) {
+        n = repeated(bytes, "23 4095 4094 0 -2147483648", gates);
+        sprintf(printed, "%.*scounts 8\n%d\n%d\n0\n0\n0\n0\n0\n0\n", (int)n, bytes, gates, gates);
+        text("895 or 896 long lines", bytes, n, 0, printed);
+    }
     text("a replaced block and a copied gate with their lines", "head 5\n1\n0\n1\n1\n6\ngates 3\n2 0 0 0 0 9\n2 0 0 0 0 3\n10 0 0 0 0 7\n", 62, 0,
          "head 5\n1\n0\n1\n1\n6\ngates 2\n4 0 0 0 0 9\n10 0 0 0 0 7\ncounts 8\n3\n2\n0\n0\n2\n0\n1\n1\n");
-    n = repeated(bytes, "2 0 0 0 0", 513);
-    text("12: 513 gates", bytes, n, 1, "refused 12 6 0\n");
-    /* lines that make 16,384 bytes in all; the gates are looked at when every line was read */
-    n = (size_t)sprintf(bytes, HEAD "gates 512\n");
-    for (int i = 0; i < 512; i++)
-        n += (size_t)sprintf(bytes + n, "8 1000000000 1000000000 0 %d\n", i < 480 ? 12345 : 1234);
+    n = repeated(bytes, "2 0 0 0 0", 897);
+    text("12: 897 gates", bytes, n, 1, "refused 12 6 0\n");
+    /* lines that make 32,768 bytes in all; the gates are looked at when every line was read */
+    n = (size_t)sprintf(bytes, HEAD "gates 896\n");
+    for (int i = 0; i < 896; i++)
+        n += (size_t)sprintf(bytes + n, "8 1000000000 1000000000 0 %d\n", i < 480 ? 1234567890 : 123456789);
     if (n != LONGEST)
-        fail("16,384 bytes", "the test's own text");
-    text("16,384 bytes", bytes, n, 1, "refused 7 0 0\n");
+        fail("32,768 bytes", "the test's own text");
+    text("32,768 bytes", bytes, n, 1, "refused 7 0 0\n");
     bytes[n] = '\n';
-    text("10: 16,385 bytes", bytes, n + 1, 1, "refused 10 0 0\n");
+    text("10: 32,769 bytes", bytes, n + 1, 1, "refused 10 0 0\n");
     bytes[n - 1] = '0';
-    text("16,384 bytes without the last LF", bytes, n, 1, "refused 11 518 0\n");
+    text("32,768 bytes without the last LF", bytes, n, 1, "refused 11 902 0\n");
+    text("32,767 bytes", bytes, n - 1, 1, "refused 11 902 0\n");
     memset(bytes, 0, sizeof bytes);
-    text("16,384 zeros", bytes, LONGEST, 1, "refused 11 1 0\n");
-    text("10: 16,385 zeros", bytes, LONGEST + 1, 1, "refused 10 0 0\n");
+    text("32,768 zeros", bytes, LONGEST, 1, "refused 11 1 0\n");
+    text("10: 32,769 zeros", bytes, LONGEST + 1, 1, "refused 10 0 0\n");
 }
 
 #define OPENING "OPENQASM 2.0;\ninclude \"qelib1.inc\";\n"
@@ -331,32 +348,38 @@ static void laboratories(void) {
     call(dilkovan_qasm, "qasm, no bytes", lab, 0, 1, "refused 13 1 0\n");
     call(dilkovan_trace, "trace, no bytes", lab, 0, 1, "refused 13 1 0\n");
     call(dilkovan_export, "export, a swap", swap, sizeof swap - 1, 1, "refused 13 1 0\n");
-    /* 512 gates in the longest statements of one number and a turn; 513; and as many bytes as may be, and one more */
-    size_t n = statements(bytes, "rz(-2147483648*pi/4) q[0];", 512), m = (size_t)sprintf(printed, "head 5\n1\n0\n128\n512\n6\ngates 512\n");
-    for (int i = 0; i < 512; i++) /* the first statement stands on line 4 */
-        m += (size_t)sprintf(printed + m, "7 0 0 0 -2147483648 %d\n", 4 + i);
-    call(dilkovan_import, "import, 512 gates", bytes, n, 0, printed);
-    call(dilkovan_export, "export, 512 gates", printed, m, 0, (bytes[n] = 0, bytes));
-    call(dilkovan_qasm, "qasm, 512 gates that are no turn", bytes, n, 0, OPENING "qreg q[1];\n");
-    call(dilkovan_trace, "trace, 512 gates that are no turn", bytes, n, 0, "");
-    n = statements(bytes, "rz(-2147483647*pi/4) q[0];\nh q[0];", 256), m = 0;
-    for (int i = 0; i < 512; i++)
+    /* 895 and 896 gates in the longest statements of one number and a turn; 897; and as many bytes as may be, and one more */
+    size_t n, m;
+    for (int gates = 895; gates < 897; gates++) {
+        n = statements(bytes, "rz(-2147483648*pi/4) q[0];", gates), m = (size_t)sprintf(printed, "head 5\n1\n0\n128\n512\n6\ngates %d\n", gates);
+        for (int i = 0; i < gates; i++) /* the first statement stands on line 4 */
+            m += (size_t)sprintf(printed + m, "7 0 0 0 -2147483648 %d\n", 4 + i);
+        call(dilkovan_import, "import, 895 or 896 gates", bytes, n, 0, printed);
+        call(dilkovan_export, "export, 895 or 896 gates", printed, m, 0, (bytes[n] = 0, bytes));
+        call(dilkovan_qasm, "qasm, 895 or 896 gates that are no turn", bytes, n, 0, OPENING "qreg q[1];\n");
+        call(dilkovan_trace, "trace, 895 or 896 gates that are no turn", bytes, n, 0, "");
+    }
+    n = statements(bytes, "rz(-2147483647*pi/4) q[0];\nh q[0];", 448), m = 0;
+    for (int i = 0; i < 896; i++)
         m += (size_t)sprintf(printed + m, i % 2 ? "h q[0]; // line %d\n" : "rz(-2147483647*pi/4) q[0]; // line %d\n", 4 + i);
-    call(dilkovan_trace, "trace, 512 gates that are copied", bytes, n, 0, printed);
-    n = statements(bytes, "x q[0];", 513);
-    call(dilkovan_trace, "trace, 513 gates", bytes, n, 1, "refused 12 0 0\n");
-    call(dilkovan_import, "import, 513 gates", bytes, n, 1, "refused 12 0 0\n");
-    call(dilkovan_qasm, "qasm, 513 gates", bytes, n, 1, "refused 12 0 0\n");
+    call(dilkovan_trace, "trace, 896 gates that are copied", bytes, n, 0, printed);
+    n = statements(bytes, "x q[0];", 897);
+    call(dilkovan_trace, "trace, 897 gates", bytes, n, 1, "refused 12 0 0\n");
+    call(dilkovan_import, "import, 897 gates", bytes, n, 1, "refused 12 0 0\n");
+    call(dilkovan_qasm, "qasm, 897 gates", bytes, n, 1, "refused 12 0 0\n");
     memset(bytes, 'x', sizeof bytes);
-    call(dilkovan_import, "import, 16,384 bytes", bytes, LONGEST, 1, "refused 13 1 0\n");
-    call(dilkovan_import, "import, 16,385 bytes", bytes, LONGEST + 1, 1, "refused 10 0 0\n");
-    call(dilkovan_export, "export, 16,385 bytes", bytes, LONGEST + 1, 1, "refused 10 0 0\n");
-    call(dilkovan_qasm, "qasm, 16,385 bytes", bytes, LONGEST + 1, 1, "refused 10 0 0\n");
-    call(dilkovan_trace, "trace, 16,385 bytes", bytes, LONGEST + 1, 1, "refused 10 0 0\n");
+    call(dilkovan_import, "import, 32,768 bytes", bytes, LONGEST, 1, "refused 13 1 0\n");
+    call(dilkovan_import, "import, 32,769 bytes", bytes, LONGEST + 1, 1, "refused 10 0 0\n");
+    call(dilkovan_export, "export, 32,768 bytes", bytes, LONGEST, 1, "refused 11 1 0\n");
+    call(dilkovan_export, "export, 32,769 bytes", bytes, LONGEST + 1, 1, "refused 10 0 0\n");
+    call(dilkovan_qasm, "qasm, 32,768 bytes", bytes, LONGEST, 1, "refused 13 1 0\n");
+    call(dilkovan_qasm, "qasm, 32,769 bytes", bytes, LONGEST + 1, 1, "refused 10 0 0\n");
+    call(dilkovan_trace, "trace, 32,768 bytes", bytes, LONGEST, 1, "refused 13 1 0\n");
+    call(dilkovan_trace, "trace, 32,769 bytes", bytes, LONGEST + 1, 1, "refused 10 0 0\n");
 }
 
 int main(void) {
-    int32_t *list = malloc(DILKOVAN_WIDTH * MOST * sizeof *list);
+    int32_t *list = malloc(DILKOVAN_WIDTH * (MOST + 1) * sizeof *list);
     if (!list)
         fail("malloc", "no memory");
     for (int turn = 0; turn < 2; turn++) {

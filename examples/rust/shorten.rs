@@ -6,7 +6,7 @@ use std::io::Write;
 const WIDTH: usize = 6;
 
 /// Bytes that the longest answer to a text may have.
-const LIST_BYTES: usize = 12 * WIDTH * 512 + 256;
+const LIST_BYTES: usize = 12 * WIDTH * 896 + 256;
 
 extern "C" {
     fn dilkovan_cnot_min(

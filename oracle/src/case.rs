@@ -1,5 +1,5 @@
 //! A case and an answer, as `batch_main` reads and writes them.
-use crate::gates::WIDTH;
+use crate::gates::{MOST_GATES, WIDTH};
 use std::fmt;
 use std::io::{self, Read};
 
@@ -90,7 +90,7 @@ impl Answer {
         }
         let rest = read_words(input, 7)?;
         let counts = std::array::from_fn(|i| if i == 0 { head[2] } else { rest[i - 1] });
-        if counts[1] > 8192 {
+        if counts[1] > MOST_GATES as u32 {
             return Err(io::Error::other(format!("{} gates out", counts[1])));
         }
         let gates = read_words(input, WIDTH * counts[1] as usize)?.into_iter().map(|x| x as i32).collect();

@@ -1,15 +1,16 @@
 //! Runs a program that reads and writes as `batch_main` does beside the original, through a pipe, and compares every answer.
 use crate::answer::{answer, named};
 use crate::case::{Answer, Case};
-use crate::make::{Rng, blocks, long, random, wide};
+use crate::make::{Rng, blocks, long, longer, random, wide, wider};
 use crate::{damage, short};
 use std::io::{BufReader, Read, Write};
 use std::process::{Child, Command, Stdio};
 use std::sync::mpsc::{Receiver, SyncSender, sync_channel};
 use std::time::Instant;
 
-/// The kinds of lists, and how many there are of each: all short ones, and of the others so many for each thousand of COUNT.
-pub const KINDS: [(&str, usize); 6] = [("short", 0), ("random", 1000), ("blocks", 500), ("damaged", 500), ("wide", 5), ("long", 1)];
+/// The kinds of lists, and how many there are of each: all short ones, and of the others so many for each ten thousand of COUNT.
+pub const KINDS: [(&str, usize); 8] =
+    [("short", 0), ("random", 10000), ("blocks", 5000), ("damaged", 5000), ("wide", 50), ("long", 10), ("wider", 10), ("longer", 1)];
 
 /// Cases on their way to the program, and the number of their kind.
 type Batch = (usize, Vec<Case>);
@@ -92,13 +93,15 @@ fn make<W: Write>(feed: &mut Feed<W>, seed: u64, count: usize, kinds: &[String])
             "damaged" => damage::damaged,
             "wide" => wide,
             "long" => long,
+            "wider" => wider,
+            "longer" => longer,
             _ => {
                 short::each(&mut |case| feed.give(case));
                 feed.flush();
                 continue;
             }
         };
-        for _ in 0..count * share / 1000 {
+        for _ in 0..count * share / 10000 {
             feed.give(one(&mut r));
         }
         feed.flush();

@@ -1,6 +1,6 @@
 //! Damaged lists: a good list with one to three faults, so that every number of the table is told, and which comes first when there are several.
 use crate::case::Case;
-use crate::gates::{FIELDS, WIDTH};
+use crate::gates::{FIELDS, MOST_BITS, MOST_WIRES, WIDTH};
 use crate::make::{Rng, blocks, random};
 
 const CODES: [i32; 6] = [0, 28, 29, -1, i32::MIN, i32::MAX];
@@ -33,13 +33,10 @@ pub fn fault(r: &mut Rng, case: &mut Case, number: usize) {
                 (0..cut).for_each(|_| case.list.push(0));
             }
         }
-        2 => {
-            let gates = r.from(8193, 8199);
-            case.list.resize(WIDTH * gates, 0);
-        }
         3 => {
-            let over = r.pick(&[1025, 1026, 1 << 32, u64::MAX]);
-            *(if r.chance(50) { &mut case.wires } else { &mut case.bits }) = over;
+            let over = r.pick(&[1, 2, 1 << 32, u64::MAX]);
+            let (room, most) = if r.chance(50) { (&mut case.wires, MOST_WIRES) } else { (&mut case.bits, MOST_BITS) };
+            *room = if over < 3 { most as u64 + over } else { over };
         }
         4 => case.out = if r.chance(50) { case.list.len() as u64 } else { case.out }.saturating_sub(r.pick(&[1, 1, 1, 5, 100])),
         5 => {
@@ -75,8 +72,10 @@ pub fn fault(r: &mut Rng, case: &mut Case, number: usize) {
 pub fn damaged(r: &mut Rng) -> Case {
     let mut case = if r.chance(70) { random(r) } else { blocks(r) };
     for _ in 0..r.pick(&[1, 1, 1, 2, 3]) {
-        // a list of more than 8,192 gates is dear to send
-        let number = if r.below(2000) == 0 { 2 } else { r.pick(&[1, 3, 4, 5, 6, 6, 7, 7, 8, 8, 9, 9, 18]) };
+        // 2 is left out: `batch_main` has no room for such a list; tests/boundary hands one in. The number that chose it is drawn all the same, so that a
+        // seed's lists stay
+        r.below(1);
+        let number = r.pick(&[1, 3, 4, 5, 6, 6, 7, 7, 8, 8, 9, 9, 18]);
         fault(r, &mut case, number);
     }
     case

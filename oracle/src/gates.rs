@@ -8,6 +8,11 @@ pub const FIELDS: usize = 5;
 /// Numbers to a gate: the line is the last.
 pub const WIDTH: usize = FIELDS + 1;
 
+/// The most gates, wires and classical bits that a list may have.
+pub const MOST_GATES: usize = 65536;
+pub const MOST_WIRES: usize = 4096;
+pub const MOST_BITS: usize = 1024;
+
 pub fn gate(n: &[i32]) -> Gate {
     let (a, b, c, turn) = (n[1] as u32, n[2] as u32, n[3] as u32, rest::angle(n[4]));
     let (control, target) = (a, b);

@@ -1,6 +1,7 @@
 //! Lists made from a seed: random gates, and shapes that are often written shorter.
-use crate::gates::{FIELDS, WIDTH};
+use crate::gates::{FIELDS, MOST_WIRES, WIDTH};
 use crate::case::Case;
+use std::collections::HashSet;
 
 /// A small generator of numbers (splitmix64): the same seed makes the same lists everywhere.
 pub struct Rng(pub u64);
@@ -245,6 +246,18 @@ pub fn blocks(r: &mut Rng) -> Case {
 pub fn wide(r: &mut Rng) -> Case {
     let n = r.pick(&[64, 65, 127, 127, 128, 128, 128, 129, 129, 1024]);
     let wires = if r.chance(50) { n } else { 1024.min(n + r.below(200)) };
+    on_all(r, n, wires, 8192)
+}
+
+/// Lists that use exactly 1,025, 2,048, 4,095 or 4,096 wires.
+pub fn wider(r: &mut Rng) -> Case {
+    let n = r.pick(&[1025, 2048, MOST_WIRES - 1, MOST_WIRES, MOST_WIRES]);
+    let wires = if r.chance(50) { n } else { MOST_WIRES.min(n + r.below(200)) };
+    on_all(r, n, wires, 10800)
+}
+
+/// Shapes on n of the wires, and a gate on each that they leave out; so many gates at most.
+fn on_all(r: &mut Rng, n: usize, wires: usize, most: usize) -> Case {
     let on = names(r, n, wires);
     let mut gates = shape(r, &on);
     for _ in 0..r.below(3) {
@@ -254,8 +267,8 @@ pub fn wide(r: &mut Rng) -> Case {
         gates.extend(shape(r, &on));
     }
     // room for the wires that are not used yet
-    gates.truncate(8192 - n);
-    let used: Vec<i32> = gates.iter().flat_map(|g| [g[1], g[2], g[3]]).collect();
+    gates.truncate(most - n);
+    let used: HashSet<i32> = gates.iter().flat_map(|g| [g[1], g[2], g[3]]).collect();
     for &q in on.iter().filter(|q| !used.contains(q)) {
         gates.push(if r.chance(20) { [X, q, 0, 0, 0] } else { rotation(r, q) });
     }
@@ -268,8 +281,18 @@ pub fn wide(r: &mut Rng) -> Case {
 /// 1,000 to 8,192 gates on 1 to 1,024 wires.
 pub fn long(r: &mut Rng) -> Case {
     let n = r.pick(&[1, 3, 8, 16, 64, 128, 200, 1024]);
+    of_gates(r, n, 1000, 8192)
+}
+
+/// 8,193 to 10,800 gates, for which `batch_main` has rooms, on 1 to 4,096 wires.
+pub fn longer(r: &mut Rng) -> Case {
+    let n = r.pick(&[1, 3, 8, 16, 64, 128, 200, MOST_WIRES]);
+    of_gates(r, n, 8193, 10800)
+}
+
+fn of_gates(r: &mut Rng, n: usize, least: usize, most: usize) -> Case {
     let on = names(r, n, n);
-    let g = if r.chance(10) { 8192 } else { r.from(1000, 8192) };
+    let g = if r.chance(10) { most } else { r.from(least, most) };
     let mix = Mix { opaque: r.pick(&[0, 0, 1, 5]), ..any_mix(r) };
     let shapes = n > 1 && r.chance(50);
     let mut gates: Vec<Gate> = Vec::new();

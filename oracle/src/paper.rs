@@ -1,6 +1,6 @@
 //! A second reading of document 01, of what the original does not tell: when a list is refused, with the field and the line that
 //! document 02 adds (A2, A9), and where the scan cuts it. It is written from the documents' words alone and shares nothing with the original or with the port.
-use crate::gates::{FIELDS, WIDTH};
+use crate::gates::{FIELDS, MOST_BITS, MOST_GATES, MOST_WIRES, WIDTH};
 use crate::case::Case;
 use std::collections::BTreeSet;
 use std::ops::Range;
@@ -48,7 +48,7 @@ pub fn refusal(case: &Case) -> Option<(u32, u32, u32)> {
     let n = case.list.len() as u64;
     let g = n / WIDTH as u64;
     let told =
-        [n % WIDTH as u64 != 0, g > 8192, case.wires > 1024 || case.bits > 1024, case.out < n, case.terms / 3 < 3 * g || case.steps / 2 < g + 128];
+        [n % WIDTH as u64 != 0, g > MOST_GATES as u64, case.wires > MOST_WIRES as u64 || case.bits > MOST_BITS as u64, case.out < n, case.terms / 3 < 3 * g || case.steps / 2 < g + 128];
     if let Some(k) = told.iter().position(|&t| t) {
         return Some((k as u32 + 1, 0, 0));
     }

@@ -1,8 +1,8 @@
 //! The stored cases and their answers, the same bytes for the same seed: fixed lists, refusals and rooms by the table, and random lists.
-use crate::gates::{FIELDS, WIDTH};
+use crate::gates::{FIELDS, MOST_BITS, MOST_WIRES, WIDTH};
 use crate::answer::answer;
 use crate::case::Case;
-use crate::make::{CAPS, Gate, Rng, blocks, flat, names, random, shape, wide};
+use crate::make::{CAPS, Gate, Rng, blocks, flat, names, random, shape, wide, wider};
 use crate::{damage, short};
 use std::fs;
 use std::io;
@@ -132,15 +132,20 @@ fn looked(out: &mut Vec<Case>) {
 
 /// The limits from both sides, and lists that have several faults, so that the first in the table's order is told.
 fn limits(out: &mut Vec<Case>) {
-    for (wires, bits) in [(0, 0), (0, 1024), (1024, 1024), (1024, 0), (1025, 0), (0, 1025), (u64::MAX, 0), (0, u64::MAX)] {
-        out.push(Case::new(wires, bits, 128, 512, Vec::new()));
-        out.push(Case::new(wires, bits, 128, 512, flat(&[[2, 1023, 0, 0, 0], [27, 1023, 1023, 0, 0]])));
+    let (most, few) = (MOST_WIRES as u64, MOST_BITS as u64);
+    for wires in [0, 1023, 1024, 1025, most - 1, most, most + 1, u64::MAX] {
+        for bits in [0, few - 1, few, few + 1, u64::MAX] {
+            out.push(Case::new(wires, bits, 128, 512, Vec::new()));
+            for wire in [1023, MOST_WIRES as i32 - 1] {
+                out.push(Case::new(wires, bits, 128, 512, flat(&[[2, wire, 0, 0, 0], [27, wire, 1023, 0, 0]])));
+            }
+        }
     }
     for extra in 1..WIDTH {
         out.push(Case::new(3, 1, 128, 512, [flat(&[sound(2)]), vec![0; extra]].concat()));
     }
     let faults: [fn(&mut Case); 7] =
-        [|c| c.list.push(0), |c| c.wires = 1025, |c| c.out = 0, |c| c.terms = 0, |c| c.list[0] = 28, |c| c.list[1] = 5, |c| c.list[4] = 1];
+        [|c| c.list.push(0), |c| c.wires = MOST_WIRES as u64 + 1, |c| c.out = 0, |c| c.terms = 0, |c| c.list[0] = 28, |c| c.list[1] = 5, |c| c.list[4] = 1];
     for first in 0..faults.len() {
         for last in first..faults.len() {
             let mut case = Case::new(3, 1, 128, 512, flat(&[sound(8), sound(24)]));
@@ -167,18 +172,16 @@ fn spans(r: &mut Rng, out: &mut Vec<Case>) {
     }
 }
 
-/// 8,192 gates, the most that is accepted, and one gate more.
-fn most(r: &mut Rng, out: &mut Vec<Case>) {
+/// 8,192 gates, once the most that was accepted, and one gate more. The most that is now would be too much to store.
+fn once_most(r: &mut Rng, out: &mut Vec<Case>) {
     let on = names(r, 40, 60);
     let mut gates: Vec<Gate> = Vec::new();
-    while gates.len() < 8192 {
+    while gates.len() < 8193 {
         let part = r.sample(&on, 6);
         gates.extend(shape(r, &part));
         gates.push([10, part[0], 0, 0, 0]);
     }
-    gates.truncate(8192);
-    out.push(Case::new(60, 0, 128, 512, flat(&gates)));
-    out.push(Case::new(60, 0, 128, 512, vec![0; WIDTH * 8193]));
+    [8192, 8193].iter().for_each(|&g| out.push(Case::new(60, 0, 128, 512, flat(&gates[..g]))));
 }
 
 fn all(lists: &str, seed: u64) -> io::Result<Vec<Case>> {
@@ -196,7 +199,8 @@ fn all(lists: &str, seed: u64) -> io::Result<Vec<Case>> {
     for (make, count) in makers {
         (0..count).for_each(|_| out.push(make(&mut r)));
     }
-    most(&mut r, &mut out);
+    once_most(&mut r, &mut out);
+    (0..2).for_each(|_| out.push(wider(&mut r)));
     Ok(out)
 }
 

@@ -11,7 +11,7 @@ use Rattle.qasm.specs.Import.{Import, wrong, many, large, list, readQasm}
 abbrev pub headFor : ℕ → ℕ → Head
 headFor wires bits = record { wires = wires; bits = bits; qubits = 128; terms = 512; form = six }
 
--- 13: the first line that is wrong or missing; 12: more than 512 gates; 3: more than 1,024 wires or bits
+-- 13: the first line that is wrong or missing; 12: more than 896 gates; 3: more than 4,096 wires or 1,024 bits
 abbrev pub readAs : Next → Import → Answer
 readAs next (wrong line) = refusal 13 line 0
 readAs next many = refusal 12 0 0

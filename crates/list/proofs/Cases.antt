@@ -1,15 +1,14 @@
 -- Worked texts, by computing: one table, two statements.
 use mathlib.Core.Path.{_≡_, refl}
 use mathlib.Core.List.{List, [], _∷_, _++_, map}
-use Prim.Native.Nat.{ℕ, _+_}
+use Prim.Native.Nat.{ℕ}
 use Prim.Native.Char.{code}
 use Prim.Native.String.{String}
 use lib.Dec.{eqb}
-use lib.ListN.{replicate}
+use lib.ListN.{length}
 use Rattle.rules.specs.Bit.{xor}
 use Rattle.text.specs.Bytes.{bytes, lf, first}
 use Rattle.text.specs.Reading.{word, ended, naturalLine, countLine}
-use Rattle.spelling.specs.Sizes.{listBytes}
 use Rattle.spelling.specs.Reading.{headAt, rows, readText}
 use Rattle.saying.specs.Answer.{exact}
 use Rattle.list.specs.Answer.{answer}
@@ -59,11 +58,11 @@ cases =
     ∷ plain "head 4\n1\n0\n" "refused 11 4 0\n"
     ∷ plain "head 4\n1\n0\n128\n2147483648\ngates 0\n" "refused 11 5 0\n"
     ∷ behind "" "refused 11 6 0\n"
-    -- the count: 512 is the most; beyond the range of numbers the line is malformed
-    ∷ behind "gates 513\n" "refused 12 6 0\n"
+    -- the count: 896 is the most; beyond the range of numbers the line is malformed
+    ∷ behind "gates 897\n" "refused 12 6 0\n"
     ∷ behind "gates 2147483647\nx" "refused 12 6 0\n"
     ∷ behind "gates 2147483648\n" "refused 11 6 0\n"
-    ∷ behind "gates 512\n" "refused 11 7 0\n"
+    ∷ behind "gates 896\n" "refused 11 7 0\n"
     ∷ behind "gates -1\n" "refused 11 6 0\n"
     ∷ behind "gates -0\n" "refused 11 6 0\n"
     ∷ behind "gates 00\n" "refused 11 6 0\n"
@@ -87,7 +86,9 @@ cases =
     ∷ one "7 0 0 0 -2147483648\n" "head 4\n1\n0\n128\n512\ngates 0\ncounts 8\n1\n0\n0\n0\n0\n0\n1\n1\n"
     ∷ one "14 0 0 0 2147483647\n" "head 4\n1\n0\n128\n512\ngates 1\n14 0 0 0 2147483647\ncounts 8\n1\n1\n0\n0\n1\n1\n0\n0\n"
     -- after all lines, 3, and then 6 to 9, 14 and 18 with the gate's index
-    ∷ plain "head 4\n1025\n0\n128\n512\ngates 1\n0 0 0 0 0\n" "refused 3 0 0\n"
+    ∷ plain "head 4\n4097\n0\n128\n512\ngates 1\n0 0 0 0 0\n" "refused 3 0 0\n"
+    ∷ plain "head 4\n1\n1025\n128\n512\ngates 0\n" "refused 3 0 0\n"
+    ∷ plain "head 4\n4096\n1024\n128\n512\ngates 0\n" "head 4\n4096\n1024\n128\n512\ngates 0\ncounts 8\n0\n0\n0\n0\n0\n0\n0\n0\n"
     ∷ one "28 0 0 0 0\n" "refused 6 0 0\n"
     ∷ one "2 0 1 0 0\n" "refused 7 0 0\n"
     ∷ one "2 1 0 0 0\n" "refused 8 0 1\n"
@@ -121,8 +122,8 @@ cases =
     ∷ plain "head 5\n1\n0\n128\n512\ngates 0\n" "refused 11 6 0\n"
     ∷ plain "head 5\n1\n0\n128\n512\n" "refused 11 6 0\n"
     ∷ behind "6\ngates 0\n" "refused 11 6 0\n"
-    ∷ fives "gates 513\n" "refused 12 7 0\n"
-    ∷ sixes "gates 513\n" "refused 12 7 0\n"
+    ∷ fives "gates 897\n" "refused 12 7 0\n"
+    ∷ sixes "gates 897\n" "refused 12 7 0\n"
     ∷ sixes "" "refused 11 7 0\n"
     -- a negative line is 18, last within its gate
     ∷ sixes "gates 1\n10 0 0 0 0 -1\n" "refused 18 0 0\n"
@@ -133,9 +134,6 @@ cases =
     "head 5\n2\n0\n128\n512\n6\ngates 2\n4 0 0 0 0 9\n8 0 1 0 0 9\ncounts 8\n3\n2\n1\n1\n2\n0\n1\n1\n"
     ∷ plain "head 5\n2\n0\n1\n512\n6\ngates 3\n2 0 0 0 0 9\n2 0 0 0 0 8\n8 0 1 0 0 7\n"
     "head 5\n2\n0\n1\n512\n6\ngates 2\n4 0 0 0 0 9\n8 0 1 0 0 7\ncounts 8\n3\n2\n1\n1\n2\n0\n1\n1\n"
-    -- the longest text is read; one byte more is not
-    ∷ record { text = replicate listBytes lf; prints = bytes "refused 11 1 0\n" }
-    ∷ record { text = replicate (listBytes + 1) lf; prints = bytes "refused 10 0 0\n" }
     ∷ []
 
 pub worked : map (λ (c : Case). answer (c .text) .text) cases ≡ map (λ (c : Case). c .prints) cases
@@ -146,3 +144,12 @@ worked = refl
 pub refusals : map (λ (c : Case). answer (c .text) .refused) cases ≡ map (λ (c : Case). eqb (first (c .prints)) (code "r")) cases
 unfolding answer exact readText headAt rows word ended naturalLine countLine xor
 refusals = refl
+
+-- the longest text is read, and one byte more is not, whatever they hold: by their length alone, since such texts aren't computed
+pub longest : (rest : List ℕ) → length rest ≡ 32767 → answer (lf ∷ rest) .text ≡ bytes "refused 11 1 0\n"
+unfolding answer exact readText headAt rows word ended naturalLine countLine xor
+longest rest e = rw e
+
+pub too-long : (text : List ℕ) → length text ≡ 32769 → answer text .text ≡ bytes "refused 10 0 0\n"
+unfolding answer
+too-long text e = rw e

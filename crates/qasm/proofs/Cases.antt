@@ -28,12 +28,12 @@ openings : map said (
 unfolding readQasm word integer faultAt fieldOf spelled
 openings = refl
 
--- registers: none, one of the two, of size 0, in the other order, late, again; sizes beyond the limit and beyond a number; a leading zero
+-- registers: none, one of the two, of size 0, in the other order, late, again; sizes at and beyond the limit of each and beyond a number; a leading zero
 registers : map behind (
     "" ∷ "creg c[2];\n" ∷ "qreg q[0];\n" ∷ "creg c[0];\n" ∷ "creg c[1];\nqreg q[1];\n" ∷ "qreg q[1];\nx q[0];\ncreg c[1];\n" ∷ "qreg q[1];\nqreg q[1];\n"
-    ∷ "qreg q[1025];\n" ∷ "creg c[1025];\n" ∷ "qreg q[2147483648];\n" ∷ "qreg q[2000];\nx q[1999];\n" ∷ "qreg q[01];\n" ∷ "qreg q[-1];\n" ∷ [])
+    ∷ "qreg q[4096];\n" ∷ "qreg q[4097];\n" ∷ "creg c[1024];\n" ∷ "creg c[1025];\n" ∷ "qreg q[2147483648];\n" ∷ "qreg q[5000];\nx q[4999];\n" ∷ "qreg q[01];\n" ∷ "qreg q[-1];\n" ∷ [])
     ≡ list 0 0 [] ∷ list 0 2 [] ∷ wrong 3 ∷ wrong 3 ∷ wrong 4 ∷ wrong 5 ∷ wrong 4
-    ∷ large ∷ large ∷ wrong 3 ∷ large ∷ wrong 3 ∷ wrong 3 ∷ []
+    ∷ list 4096 0 [] ∷ large ∷ list 0 1024 [] ∷ large ∷ wrong 3 ∷ large ∷ wrong 3 ∷ wrong 3 ∷ []
 unfolding readQasm word integer faultAt fieldOf spelled
 registers = refl
 
@@ -53,7 +53,7 @@ statements = refl
 -- each gate has its statement's line, the opening counted; a turn is kept as it stands, at both ends too; a bit and a wire of the same number; a third gate is one too many, and a wrong line wins over it
 gates : map behind (
     "qreg q[1];\nrz(1*pi/4) q[0];\nrz(-9*pi/4) q[0];\n" ∷ "qreg q[1];\nrz(-2147483648*pi/4) q[0];\n" ∷ "qreg q[1];\ncreg c[1];\nmeasure q[0] -> c[0];\nreset q[0];\n"
-    ∷ "qreg q[3];\nccx q[2],q[0],q[1];\ncz q[1],q[0];\n" ∷ "qreg q[1];\nx q[0];\nx q[0];\nx q[0];\n" ∷ "qreg q[1];\nx q[0];\nx q[0];\nx q[0];\ny\n" ∷ "qreg q[1025];\nx q[0];\nx q[0];\nx q[0];\n" ∷ [])
+    ∷ "qreg q[3];\nccx q[2],q[0],q[1];\ncz q[1],q[0];\n" ∷ "qreg q[1];\nx q[0];\nx q[0];\nx q[0];\n" ∷ "qreg q[1];\nx q[0];\nx q[0];\nx q[0];\ny\n" ∷ "qreg q[4097];\nx q[0];\nx q[0];\nx q[0];\n" ∷ [])
     ≡ list 1 0 (pos 7 ∷ pos 0 ∷ pos 0 ∷ pos 0 ∷ pos 1 ∷ pos 4 ∷ pos 7 ∷ pos 0 ∷ pos 0 ∷ pos 0 ∷ negsuc 8 ∷ pos 5 ∷ [])
     ∷ list 1 0 (pos 7 ∷ pos 0 ∷ pos 0 ∷ pos 0 ∷ negsuc 2147483647 ∷ pos 4 ∷ [])
     ∷ list 1 1 (pos 27 ∷ pos 0 ∷ pos 0 ∷ pos 0 ∷ pos 0 ∷ pos 5 ∷ pos 13 ∷ pos 0 ∷ pos 0 ∷ pos 0 ∷ pos 0 ∷ pos 6 ∷ [])

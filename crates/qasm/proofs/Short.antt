@@ -32,7 +32,7 @@ record Small (row : List ℤ) : Type 0 where
   index : (k : ℕ) → k < 5 → eqb k 0 ≡ false → eqb k 4 ≡ false → length (printed (getD row k (pos 0))) ≤ 4
   turn : length (printed (getD row 4 (pos 0))) ≤ 11
 
-four : (v : ℤ) (n : ℕ) → pos n ≡ v → n ≤ 1024 → length (printed v) ≤ 4
+four : (v : ℤ) (n : ℕ) → pos n ≡ v → n ≤ maxWires → length (printed v) ≤ 4
 unfolding printed
 four v n e h = rw (← e) (decimal-long 3 n (omega arith))
 
@@ -46,18 +46,18 @@ small-gate w b row hw hb g = record { index = at; turn = printed-short (getD row
         let c : ℕ = codeOf row in
         let r = row-fit w b row (g .right) in
         let n : ℕ = natOf (getD row 2 (pos 0)) in
-        let fits : n ≤ 1024 = split (second c) (λ s. omega (arith, r .second-in s)) (λ s. split (bitted c) (λ t. omega (arith, r .bit-in t)) (λ t. omega (arith, r .no-second s t))) in
+        let fits : n ≤ maxWires = split (second c) (λ s. omega (arith, r .second-in s)) (λ s. split (bitted c) (λ t. omega (arith, r .bit-in t)) (λ t. omega (arith, r .no-second s t))) in
         four (getD row 2 (pos 0)) n (row-signless w b row (g .right) .second) fits
     at (suc (suc (suc zero))) h e f =
         let c : ℕ = codeOf row in
         let r = row-fit w b row (g .right) in
         let n : ℕ = natOf (getD row 3 (pos 0)) in
-        let fits : n ≤ 1024 = split (third c) (λ s. omega (arith, r .third-in s)) (λ s. omega (arith, r .no-third s)) in
+        let fits : n ≤ maxWires = split (third c) (λ s. omega (arith, r .third-in s)) (λ s. omega (arith, r .no-third s)) in
         four (getD row 3 (pos 0)) n (row-signless w b row (g .right) .third) fits
     at (suc (suc (suc (suc zero)))) h e f = absurd (true≢false f)
     at (suc (suc (suc (suc (suc k))))) h e f = absurd (omega arith)
 
-small-size : (n : ℕ) → n ≤ 1024 → Small (sized n)
+small-size : (n : ℕ) → n ≤ maxWires → Small (sized n)
 small-size n h = record { index = at; turn = omega (arith, four (pos 0) 0 refl (omega arith)) }
   where
     at : (k : ℕ) → k < 5 → eqb k 0 ≡ false → eqb k 4 ≡ false → length (printed (getD (sized n) k (pos 0))) ≤ 4
@@ -96,7 +96,7 @@ statements-short w b (suc g) ns hw hb e =
     let t : List ℕ = template (codeOf row) in
     omega (arith, length-append (spellBy t row) (statementsText g (drop width ns)), spell-short t row (small-gate w b row hw hb (e .0)), fine (codeOf row) .short, statements-short w b g (drop width ns) hw hb (e .1))
 
-register-short : (t : List ℕ) (n : ℕ) → shortSize t ≡ 14 → n ≤ 1024 → length (registerText t n) ≤ 14
+register-short : (t : List ℕ) (n : ℕ) → shortSize t ≡ 14 → n ≤ maxWires → length (registerText t n) ≤ 14
 unfolding registerText
 register-short t n e h = split (eqb n 0) (λ z. rw z (omega arith)) (λ z. rw z (omega (arith, spell-short t (sized n) (small-size n h))))
 
@@ -113,9 +113,9 @@ unfolding openingText
 opening-short w b hw hb =
     let q : List ℕ = registerText wiresLine w in
     let c : List ℕ = registerText bitsLine b in
-    omega (arith, length-append versionLine (includeLine ++ (q ++ c)), length-append includeLine (q ++ c), length-append q c, register-short wiresLine w wires-short hw, register-short bitsLine b bits-short hb)
+    omega (arith, length-append versionLine (includeLine ++ (q ++ c)), length-append includeLine (q ++ c), length-append q c, register-short wiresLine w wires-short hw, register-short bitsLine b bits-short (omega arith))
 
--- 512 gates have at most 15,950 bytes, and a text may have 16,384
+-- 896 gates have at most 27,854 bytes, and a text may have 32,768
 pub qasm-short : (most w b : ℕ) (ns : List ℤ) → Spellable most w b ns → length (qasmText w b ns) ≤ openingSize + 31 * (length ns / width)
 unfolding qasmText
 qasm-short most w b ns s =

@@ -13,10 +13,10 @@ abbrev pub lastFragment : ℕ
 lastFragment = 9
 
 abbrev pub maxGates : ℕ
-maxGates = 8192
+maxGates = 65536
 
 abbrev pub maxWires : ℕ
-maxWires = 1024
+maxWires = 4096
 
 abbrev pub maxBits : ℕ
 maxBits = 1024

@@ -5,9 +5,9 @@ ghost use Rattle.rules.specs.Limits as Limits;
 // Numbers to a gate.
 pub const GATE_WIDTH: usize = 6;
 
-pub const MAX_GATES: usize = 8192;
+pub const MAX_GATES: usize = 65536;
 
-pub const MAX_WIRES: usize = 1024;
+pub const MAX_WIRES: usize = 4096;
 
 pub const MAX_BITS: usize = 1024;
 

@@ -23,7 +23,7 @@ answered text = record { refused = false; text = text }
 abbrev pub refusal : ℕ → ℕ → ℕ → Answer
 refusal number place field = record { refused = true; text = refusalText (number ∷ place ∷ field ∷ []) }
 
--- 10: a text above 16,384 bytes, before anything is read
+-- 10: a text above 32,768 bytes, before anything is read
 abbrev pub unlessLong : List ℕ → Answer → Answer
 unlessLong text else = firstOf ((ltb listBytes (length text), refusal 10 0 0) ∷ []) else
 
@@ -45,7 +45,7 @@ abbrev pub judged : Answer → Verdict → Answer
 judged else (refused r) = refusal (r .number) (r .place) (r .field)
 judged else accepted = else
 
--- 11: a malformed, missing or surplus line, by its number; 12: more than 512 gates, by the line of `gates`
+-- 11: a malformed, missing or surplus line, by its number; 12: more than 896 gates, by the line of `gates`
 abbrev pub readAs : Next → Read → Answer
 readAs next (malformed line) = refusal 11 line 0
 readAs next (many line) = refusal 12 line 0

@@ -5,11 +5,11 @@ use Rattle.text.specs.Contracts.{numberSize}
 
 -- bytes of a text
 abbrev pub listBytes : ℕ
-listBytes = 16384
+listBytes = 32768
 
 -- gates of its list
 abbrev pub listGates : ℕ
-listGates = 512
+listGates = 896
 
 -- bytes of the room for an answer: of the numbers of the most gates, and of all other lines. Every answer fits (`Says` of `list`)
 abbrev pub answerBytes : ℕ

@@ -11,9 +11,9 @@ ghost use Rattle.spelling.specs.Sizes as Sizes;
 ghost use Rattle.spelling.specs.Texts as Texts;
 
 // Bytes of a text, gates of its list, bytes of the room for an answer.
-pub const LIST_BYTES: usize = 16384;
+pub const LIST_BYTES: usize = 32768;
 
-pub const LIST_GATES: usize = 512;
+pub const LIST_GATES: usize = 896;
 
 pub const ANSWER_BYTES: usize = 12 * (GATE_WIDTH * LIST_GATES) + 256;
 

@@ -4,10 +4,11 @@ use Prim.Native.Nat.{ℕ, _+_, _*_, _≤_}
 use native.Mathlib.Omega.{arith}
 use lib.ListN.{length-replicate}
 use lib.Seq.{length-take-le}
-use Rattle.rules.specs.Limits.{maxColumns, maxWires}
+use Rattle.rules.specs.Limits.{maxColumns, maxWires, termWidth, termEntries}
 use Rattle.rules.specs.Plan.{Plan, planOf}
 use Rattle.plan.specs.View.{view}
 use Rattle.cnot_min.proofs.Rooms.{clamped}
+use Rattle.spelling.specs.Sizes.{listGates}
 use Rattle.spelling.specs.Heads.{headOf}
 use Rattle.saying.proofs.Checking.{exact-fits}
 use Rattle.trace.specs.Contracts.{Cuts}
@@ -53,7 +54,7 @@ fold-run-requires c κs =
     let s = (c .before .before .before .before .before .before .before .before) in
     let o = (c .before .before .before .before .before) .of-caps in
     let capped : view (o .result) .qubits ≤ maxColumns = omega (arith, ap (λ (p : Plan). p .qubits) (o .ensures), clamped (s .args .head .qubits) (s .args .head .terms)) in
-    foldable (headOf (s .args .head)) (s .args .numbers .now) (s .pre .0) (view (o .result)) capped (s .args .at) _ _ _ (omega (arith, s .pre .1)) (length-replicate {A = ℕ} 128 0) (length-replicate {A = ℕ} 256 0) (length-replicate {A = ℕ} 4608 0)
+    foldable (headOf (s .args .head)) (s .args .numbers .now) (s .pre .0) (view (o .result)) capped (s .args .at) _ _ _ (omega (arith, s .pre .1)) (length-replicate {A = ℕ} 128 0) (length-replicate {A = ℕ} 256 0) (length-replicate {A = ℕ} (termWidth * termEntries listGates) 0)
 
 add-result : tie.Need-add-result
 add-result c = search needs
