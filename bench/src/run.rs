@@ -167,6 +167,27 @@ fn adder(bits: usize) -> List {
     list
 }
 
+/// Terms as chemistry has them: a ladder of CNOTs around one rz, and back, on wires that some h turn before and after.
+fn chemistry(seed: u64, gates: usize, wires: usize) -> List {
+    let mut r = Random(seed);
+    let mut list = List::new();
+    while list.len() < WIDTH * gates {
+        let first = r.below(wires - 1);
+        let last = first + 1 + r.below(wires - first - 1);
+        let turned: Vec<usize> = (first..=last).filter(|_| r.below(4) == 0).collect();
+        turned.iter().for_each(|&q| one(&mut list, 10, q));
+        (first..last).for_each(|q| two(&mut list, 8, q, q + 1));
+        push(&mut list, [7, last as i32, 0, 0, 1 + r.below(7) as i32]);
+        (first..last).rev().for_each(|q| two(&mut list, 8, q, q + 1));
+        turned.iter().for_each(|&q| one(&mut list, 10, q));
+    }
+    list.truncate(WIDTH * gates);
+    list
+}
+
+/// The lengths whose times tell how a list's time grows, up to the most gates.
+const LENGTHS: [usize; 4] = [8192, 16384, 32768, gates::MOST_GATES];
+
 fn median(mut times: Vec<f64>) -> f64 {
     times.sort_by(|a, b| a.total_cmp(b));
     times[times.len() / 2]
@@ -229,14 +250,35 @@ fn main() {
     compare("cz only, one block, 128 wires", &several(&|s| cz_only(s, 8192, 128)), 128, 128, 512);
     compare("Fourier, 90 wires", &[fourier(8192, 90)], 90, 128, 512);
     compare("adder, 200 bits", &[adder(200)], 600, 128, 512);
-    for gates in [512, 1024, 2048, 4096, 8192] {
+    for gates in [512, 1024, 2048, 4096] {
         compare(&format!("growth: 16 wires, 30 %, {gates} gates"), &several(&|s| dense(s, gates, 16, 30)), 16, 128, 512);
     }
     for wires in [8, 16, 32, 64, 128] {
         compare(&format!("growth: {wires} wires, 30 %, 4,096 gates"), &several(&|s| dense(s, 4096, wires, 30)), wires, 128, 512);
     }
-    compare("term cap 24,576, 128 wires, 30 %", &several(&|s| dense(s, 8192, 128, 30)), 128, 128, 24576);
-    let calls = vec![call(dense(1, 8192, 128, 30), 128), call(t_wall(8192, 128), 128), call(cz_only(1, 8192, 128), 128), call(dense(1, 8192, 1024, 60), 1024), call(fourier(8192, 90), 90)];
+    for (wires, rotations) in [(16, 30), (128, 30), (4096, 60)] {
+        for gates in LENGTHS {
+            compare(&format!("growth: {wires} wires, {rotations} %, {gates} gates"), &several(&|s| dense(s, gates, wires, rotations)), wires, 128, 512);
+        }
+    }
+    for gates in LENGTHS {
+        compare(&format!("growth: t wall, 128 wires, {gates} gates"), &[t_wall(gates, 128)], 128, 128, 512);
+    }
+    for gates in LENGTHS {
+        compare(&format!("growth: cz wall, 128 wires, {gates} gates"), &[cz_wall(gates, 128)], 128, 128, 512);
+    }
+    for gates in LENGTHS {
+        compare(&format!("growth: cz only, one block, 128 wires, {gates} gates"), &[cz_only(7919, gates, 128)], 128, 128, 512);
+    }
+    // no list of so many gates has more terms than the cap
+    for gates in LENGTHS {
+        compare(&format!("growth: term cap {}, 128 wires, 30 %, {gates} gates", 3 * gates), &several(&|s| dense(s, gates, 128, 30)), 128, 128, 3 * gates);
+    }
+    compare("chemistry, 32 wires", &several(&|s| chemistry(s, 40000, 32)), 32, 128, 512);
+    let calls = vec![
+        call(dense(1, 65536, 128, 30), 128), call(t_wall(65536, 128), 128), call(cz_only(1, 65536, 128), 128), call(dense(1, 8192, 1024, 60), 1024), call(dense(1, 65536, 4096, 60), 4096),
+        call(fourier(65536, 90), 90), call(chemistry(1, 40000, 32), 32),
+    ];
     println!();
     println!("Deepest stack of a call on the lists above: {} bytes.", deepest(calls));
 }

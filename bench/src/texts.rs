@@ -6,8 +6,11 @@ use paint::deepest;
 use std::hint::black_box;
 use std::time::Instant;
 
-/// Bytes of the longest answer, which is trace's: 512 lines.
-const TRACE_BYTES: usize = 85 * 512;
+/// The most gates of a text.
+const GATES: usize = 896;
+
+/// Bytes of the longest answer, which is trace's: a line for each gate.
+const TRACE_BYTES: usize = 85 * GATES;
 
 /// A room in which every answer fits.
 type Room = [u8; TRACE_BYTES];
@@ -21,8 +24,6 @@ unsafe extern "C" {
     fn dilkovan_qasm(text: *const u8, text_length: usize, out: *mut Room, length: *mut usize) -> u64;
     fn dilkovan_trace(text: *const u8, text_length: usize, out: *mut Room, length: *mut usize) -> u64;
 }
-
-const GATES: usize = 512;
 
 fn call(door: Door, text: &str) -> (u64, String) {
     let (mut out, mut length) = ([0; TRACE_BYTES], 0);
@@ -44,7 +45,7 @@ fn time(door: Door, text: &str) -> f64 {
 
 /// The statements in turn, on all wires and bits that a list may have.
 fn compare(name: &str, statements: &[&str]) -> (String, String) {
-    let mut lab = String::from("OPENQASM 2.0;\ninclude \"qelib1.inc\";\nqreg q[1024];\ncreg c[1024];\n");
+    let mut lab = String::from("OPENQASM 2.0;\ninclude \"qelib1.inc\";\nqreg q[4096];\ncreg c[1024];\n");
     (0..GATES).for_each(|i| lab += &format!("{}\n", statements[i % statements.len()]));
     let (refused, ours) = call(dilkovan_import, &lab);
     assert_eq!(refused, 0, "{name}: {ours}");
@@ -80,10 +81,10 @@ fn main() {
     let texts = [
         compare("x", &["x q[0];"]),
         compare("h", &["h q[0];"]),
-        compare("cx, long numbers", &["cx q[1023],q[1022];"]),
-        compare("rz, long turns", &["rz(-2147483648*pi/4) q[1023];"]),
-        compare("measure", &["measure q[1023] -> c[1023];"]),
-        compare("ccx, the longest", &["ccx q[1023],q[1022],q[1021];"]),
+        compare("cx, long numbers", &["cx q[4095],q[4094];"]),
+        compare("rz, long turns", &["rz(-2147483648*pi/4) q[4095];"]),
+        compare("measure", &["measure q[4095] -> c[1023];"]),
+        compare("ccx, the longest", &["ccx q[4095],q[4094],q[4093];"]),
         compare("each in turn", &[
             "x q[7];", "t q[15];", "tdg q[3];", "s q[1];", "sdg q[2];", "z q[9];", "rz(3*pi/4) q[4];", "cx q[1],q[12];", "cz q[5],q[6];", "h q[0];", "y q[8];", "reset q[7];",
             "ccx q[0],q[1],q[2];", "measure q[3] -> c[4];",
