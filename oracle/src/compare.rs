@@ -1,7 +1,7 @@
 //! Runs a program that reads and writes as `batch_main` does beside the original, through a pipe, and compares every answer.
 use crate::answer::{answer, named};
 use crate::case::{Answer, Case};
-use crate::make::{Rng, blocks, long, longer, random, wide, wider};
+use crate::make::{Rng, blocks, long, longer, longest, random, wide, wider};
 use crate::{damage, short};
 use std::io::{BufReader, Read, Write};
 use std::process::{Child, Command, Stdio};
@@ -9,8 +9,9 @@ use std::sync::mpsc::{Receiver, SyncSender, sync_channel};
 use std::time::Instant;
 
 /// The kinds of lists, and how many there are of each: all short ones, and of the others so many for each ten thousand of COUNT.
-pub const KINDS: [(&str, usize); 8] =
-    [("short", 0), ("random", 10000), ("blocks", 5000), ("damaged", 5000), ("wide", 50), ("long", 10), ("wider", 10), ("longer", 1)];
+/// The last two are for a program with larger rooms than `batch_main` (oracle/large).
+pub const KINDS: [(&str, usize); 10] =
+    [("short", 0), ("random", 10000), ("blocks", 5000), ("damaged", 5000), ("wide", 50), ("long", 10), ("wider", 10), ("longer", 1), ("longest", 1), ("surplus", 10)];
 
 /// Cases on their way to the program, and the number of their kind.
 type Batch = (usize, Vec<Case>);
@@ -95,6 +96,8 @@ fn make<W: Write>(feed: &mut Feed<W>, seed: u64, count: usize, kinds: &[String])
             "long" => long,
             "wider" => wider,
             "longer" => longer,
+            "longest" => longest,
+            "surplus" => damage::surplus,
             _ => {
                 short::each(&mut |case| feed.give(case));
                 feed.flush();

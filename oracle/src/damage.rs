@@ -1,6 +1,6 @@
 //! Damaged lists: a good list with one to three faults, so that every number of the table is told, and which comes first when there are several.
 use crate::case::Case;
-use crate::gates::{FIELDS, MOST_BITS, MOST_WIRES, WIDTH};
+use crate::gates::{FIELDS, MOST_BITS, MOST_GATES, MOST_WIRES, WIDTH};
 use crate::make::{Rng, blocks, random};
 
 const CODES: [i32; 6] = [0, 28, 29, -1, i32::MIN, i32::MAX];
@@ -76,6 +76,17 @@ pub fn damaged(r: &mut Rng) -> Case {
         // seed's lists stay
         r.below(1);
         let number = r.pick(&[1, 3, 4, 5, 6, 6, 7, 7, 8, 8, 9, 9, 18]);
+        fault(r, &mut case, number);
+    }
+    case
+}
+
+/// As many gates as a list may have or some more, and perhaps a fault that is told before 2 or behind it. The rooms are those of a short list.
+pub fn surplus(r: &mut Rng) -> Case {
+    let mut case = random(r);
+    case.list.resize(WIDTH * (MOST_GATES + r.pick(&[0, 1, 1, 2, 100])), 0);
+    for _ in 0..r.below(3) {
+        let number = r.pick(&[1, 3, 4, 6]);
         fault(r, &mut case, number);
     }
     case

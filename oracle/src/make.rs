@@ -1,5 +1,5 @@
 //! Lists made from a seed: random gates, and shapes that are often written shorter.
-use crate::gates::{FIELDS, MOST_WIRES, WIDTH};
+use crate::gates::{FIELDS, MOST_GATES, MOST_WIRES, WIDTH};
 use crate::case::Case;
 use std::collections::HashSet;
 
@@ -288,6 +288,13 @@ pub fn long(r: &mut Rng) -> Case {
 pub fn longer(r: &mut Rng) -> Case {
     let n = r.pick(&[1, 3, 8, 16, 64, 128, 200, MOST_WIRES]);
     of_gates(r, n, 8193, 10800)
+}
+
+/// 8,193 gates to as many as a list may have, half of them at the largest caps.
+pub fn longest(r: &mut Rng) -> Case {
+    let n = r.pick(&[1, 3, 8, 16, 64, 128, 200, MOST_WIRES]);
+    let case = of_gates(r, n, 8193, MOST_GATES);
+    if r.chance(50) { Case { qubit_cap: u64::MAX, term_cap: u64::MAX, ..case } } else { case }
 }
 
 fn of_gates(r: &mut Rng, n: usize, least: usize, most: usize) -> Case {
