@@ -1,5 +1,5 @@
 -- A slot's target and what it owes as document 01's aim, and the turn of a node by its aim.
-use mathlib.Core.Path.{_≡_, refl, ap, _∙_}
+use mathlib.Core.Path.{_≡_, refl, sym, ap, _∙_}
 use mathlib.Core.Logic.{_≢_}
 use mathlib.Core.Bool.{true, false, false≢true, true≢false}
 use mathlib.Core.List.{List, [], _∷_, append-nil}
@@ -62,11 +62,11 @@ module _ (s : Slot) where
       pub takes-aimed : c < n → Aimed n (takes s rest c)
       takes-aimed l =
           split (eqb (s .target) nothing)
-          (λ e. rw e (record { target = λ q. l; owed = λ q. absurd (q refl); apart = λ q. ap (λ (v : ℕ). bit v c) is ∙ rest-off (val (s .cands)) c b }))
-          (λ e. rw e (record { target = a .target; owed = λ q. l; apart = still-apart }))
+          (λ e. rw e (record { target = λ q. l; owed = λ q. absurd (q refl); apart = λ q. ap (λ (v : ℕ). bit v c) is ∙ rest-off (val (s .cands)) c b; differ = λ q r. q (sym r) }))
+          (λ e. rw e (record { target = a .target; owed = λ q. l; apart = still-apart; differ = λ q r. true≢false (sym b ∙ ap (bit (val (s .cands))) r ∙ a .apart q) }))
 
       pub leaves-aimed : (ones : ℕ) → Aimed n (leaves s rest ones)
-      leaves-aimed ones = record { target = a .target; owed = a .owed; apart = still-apart }
+      leaves-aimed ones = record { target = a .target; owed = a .owed; apart = still-apart; differ = a .differ }
 
 pub settled-to : (t : ℕ) → Settled (aimTo t)
 settled-to t = split (eqb t nothing) (λ e. rw e tt) (λ e. rw e tt)

@@ -4,6 +4,7 @@ pub mod Summing
 pub mod Stacks
 pub mod Aims
 pub mod Splitting
+pub mod Deferring
 pub mod Making
 pub mod Chaining
 pub mod Steps

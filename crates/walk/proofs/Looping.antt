@@ -48,6 +48,10 @@ pub record Walked (names : List ℕ) (whole : List Step) (p₀ p : Place) (withi
 pub walk-first : (names : List ℕ) (p : Place) → Standing names p → Walked names (left (length names) (stack p)) p p true
 walk-first names p h = record { part = partly-first names _ (p .out) (p .budget) (p .rows) (h .ready); standing = λ _. h }
 
+-- a turn from the same place
+pub stepped-from : (names : List ℕ) (p p′ q : Place) (v : Bool) → p′ ≡ p → Stepped names p′ q v → Stepped names p q v
+stepped-from names p p′ q v e s = subst (λ (r : Place). Stepped names r q v) e s
+
 module _ (names : List ℕ) (whole : List Step) (p₀ p : Place) (w : Bool) (h : Walked names whole p₀ p w) (t : w ≡ true) where
   pub walk-standing : Standing names p
   walk-standing = h .standing t
@@ -116,7 +120,7 @@ module _ (names : List ℕ) (n : ℕ) (k : length names ≡ n) (ss old : List Sl
   first-standing m out b w many r =
       record {
         wires = w;
-        sound = sound-at (length names) ss 1 end 0 refl (first c) first-slot (omega arith) (record { target = λ q. absurd (q refl); owed = λ q. absurd (q refl); apart = λ q. absurd (q refl) }) tt;
+        sound = sound-at (length names) ss 1 end 0 refl (first c) first-slot (omega arith) (record { target = λ q. absurd (q refl); owed = λ q. absurd (q refl); apart = λ q. absurd (q refl); differ = λ q. absurd (q refl) }) tt;
         stairs = subst (Stairs (length names)) (sym first-stack) (subst (λ (j : ℕ). Stairs j (node (2 ^ n - 1) free ts ∷ [])) (sym k) (stairs-first n ts));
         fits = omega arith;
         wide = rw e (simp length-set wide);

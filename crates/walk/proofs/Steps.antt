@@ -197,13 +197,13 @@ module _ (names : List ℕ) (p : Place) (h : Standing names p) (at : ℕ) (k : p
         made = record { emits = pd .emits; rows = λ _. pd .rows ∙ added (d .owed) (d .target) (p .rows) };
         stack = stacked-is s-top;
         sound = sound-at (length names) ss (p .depth) (p .end) at k (paid d) got (top .start)
-            (record { target = top .aimed .target; owed = λ x. absurd (x refl); apart = top .aimed .apart })
+            (record { target = top .aimed .target; owed = λ x. absurd (x refl); apart = top .aimed .apart; differ = λ x y. x (sym y) })
             (subst (λ (x : List Slot). Laid (length names) x at (d .start)) (sym f) (sound-slots (length names) (p .slots) at (paid d) at (d .start) (omega arith) rest-sound));
         fits = omega (arith, h .fits);
       }
 
   -- its target is none of the candidates that are left
-  apart-live : (live : Parity) → Seen (val (d .cands)) (val live) (slice (d .start) (p .end) (p .terms)) → d .target ≢ nothing → bit (val live) (d .target) ≡ false
+  pub apart-live : (live : Parity) → Seen (val (d .cands)) (val live) (slice (d .start) (p .end) (p .terms)) → d .target ≢ nothing → bit (val live) (d .target) ≡ false
   apart-live live v q = v (d .target) ∙ ap (λ (b : Bool). b && any (d .target) (slice (d .start) (p .end) (p .terms))) (top .aimed .apart q)
 
   -- one term, which has candidates left: it is run down
@@ -249,7 +249,7 @@ module _ (names : List ℕ) (p : Place) (h : Standing names p) (at : ℕ) (k : p
       let ok = best-ok (length names) cs us small (not-none cs z) in
       let c-lt : c < length names = subst (λ (j : ℕ). j < length names) (sym c-is) (ok .0) in
       let c-in : bit cs c ≡ true = ap (bit cs) c-is ∙ ok .1 in
-      let near : Aimed (length names) (narrowed d live) = record { target = top .aimed .target; owed = top .aimed .owed; apart = apart-live live v } in
+      let near : Aimed (length names) (narrowed d live) = record { target = top .aimed .target; owed = top .aimed .owed; apart = apart-live live v; differ = top .aimed .differ } in
       let rest : ℕ = val (br .rest) in
       let x : Slot = takes d (br .rest) c in
       let y : Slot = leaves d (br .rest) (br .ones) in

@@ -2,7 +2,7 @@
 use mathlib.Core.Path.{_≡_}
 use mathlib.Core.Bool.{Bool, true}
 use mathlib.Core.List.{List, [], _∷_}
-use Prim.Native.Nat.{ℕ, _+_, _*_, _^_, _≤_, _<_}
+use Prim.Native.Nat.{ℕ, _+_, _-_, _*_, _^_, _≤_, _<_}
 use lib.IntN.{ℤ}
 use lib.ListN.{length, getD, set, take}
 use lib.Seq.{slice}
@@ -21,14 +21,16 @@ use Rattle.rows.specs.Rows.{rowsOf}
 use Rattle.emit.specs.Emitted.{Ready, Emits}
 use Rattle.walk.specs.declared.Slot.{Slot}
 use Rattle.walk.specs.declared.State.{State}
-use Rattle.walk.specs.Stack.{nodeWidth, slotsOf, stackOf, Laid, paid, Chosen}
+use Rattle.walk.specs.declared.Pending.{Pending}
+use Rattle.walk.specs.Stack.{nodeWidth, noSlot, slotsOf, stackOf, Laid, paid, Chosen}
+use Rattle.walk.specs.Later.{current, Waits}
 
 -- a block's wires by local index: at most 128, each a number that a gate can hold
 pub record Wires (names : List ℕ) : Type 0 where
   pub few : length names ≤ 128
   pub each : (i : ℕ) → i < length names → getD names i 0 < 2 ^ 31
 
--- the rooms and the numbers of a walk
+-- the rooms and the numbers of a walk, and the terms as they are now
 pub record Place : Type 0 where
   pub slots : List Slot
   pub terms : List Term
@@ -43,11 +45,11 @@ stack p = stackOf (p .slots) (p .depth) (p .terms) (p .end)
 
 abbrev pub placeOf : List ℕ → List ℕ → List ℕ → List ℤ → State → Place
 placeOf nodes room held out s =
-    record { slots = slotsOf nodes; terms = termsOf room; rows = rowsOf held; out = out; depth = s .depth; end = s .end; budget = view (s .budget) }
+    record { slots = slotsOf nodes; terms = current (s .pending) (termsOf room); rows = rowsOf held; out = out; depth = s .depth; end = s .end; budget = view (s .budget) }
 
 -- where a turn leaves off
-abbrev pub stateOf : ℕ → ℕ → Pushed → State
-stateOf depth end w = record { depth = depth; end = end; budget = w .budget; within = w .within }
+abbrev pub stateOf : ℕ → ℕ → Pushed → Pending → State
+stateOf depth end w f = record { depth = depth; end = end; budget = w .budget; within = w .within; pending = f }
 
 -- what holds before each turn
 pub record Standing (names : List ℕ) (p : Place) : Type 0 where
@@ -58,6 +60,13 @@ pub record Standing (names : List ℕ) (p : Place) : Type 0 where
   pub wide : length names + 1 ≤ length (p .slots)
   pub many : length (p .rows) ≡ length names
   pub ready : Ready (p .out) (p .budget)
+
+-- the newest node's set is brought up to date, at the same place
+pub record Readied (nodes room room′ : List ℕ) (s s′ : State) : Type 0 where
+  pub same : (m : List ℕ) (out : List ℤ) → placeOf nodes room′ m out s′ ≡ placeOf nodes room m out s
+  pub within : s′ .within ≡ s .within
+  pub upto : s′ .pending .upto ≤ getD (slotsOf nodes) (s′ .depth - 1) noSlot .start
+  pub waits : Waits (s′ .pending) (length (termsOf room′))
 
 -- all the steps are emitted and the rows follow, or the budget is spent
 pub record Synthesized (names : List ℕ) (ss : List Step) (out : List ℤ) (b : Budget) (m : List ℕ) (out′ : List ℤ) (b′ : Budget) (m′ : List ℕ) (within : Bool) : Type 0 where

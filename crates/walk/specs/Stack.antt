@@ -58,11 +58,12 @@ unfoldable pub stackOf : List Slot → ℕ → List Term → ℕ → List Node
 stackOf ss zero ts end = []
 stackOf ss (suc d) ts end = let s = getD ss d noSlot in nodeOf s ts end ∷ stackOf ss d ts (s .start)
 
--- the columns of a slot are among n, and its target is no candidate
+-- the columns of a slot are among n, and its target is no candidate and not what it owes
 pub record Aimed (n : ℕ) (s : Slot) : Type 0 where
   pub target : s .target ≢ nothing → s .target < n
   pub owed : s .owed ≢ nothing → s .owed < n
   pub apart : s .target ≢ nothing → bit (val (s .cands)) (s .target) ≡ false
+  pub differ : s .target ≢ nothing → s .owed ≢ s .target
 
 -- of the first `depth` nodes each set begins where the one before it ends, and the columns are among n
 unfoldable pub Laid : ℕ → List Slot → ℕ → ℕ → Type 0

@@ -1,14 +1,16 @@
-// Document 01's phase walk over lent rooms: the waiting nodes in a stack of their own, their sets side by side in the room of terms.
+// Document 01's phase walk over lent rooms: the waiting nodes in a stack of their own, their sets side by side in the room of terms. Of the CNOTs that a
+// target has had, the terms that wait take note all at once, when their turn or another target's comes.
 use budget::Budget;
 use budget::Pushed;
 use join::Local;
 use parity::Parity;
 ghost use mathlib.Core.Path.{_≡_};
 ghost use mathlib.Core.Logic.{_≢_};
+ghost use mathlib.Core.Bool.{false};
 ghost use mathlib.Core.List.{[], _∷_};
 ghost use Prim.Native.Nat.{_+_, _-_, _%_, _^_, _<_, _≤_};
 ghost use lib.ListN.{length, getD, set};
-ghost use Rattle.rules.specs.Bit.{xor};
+ghost use Rattle.rules.specs.Bit.{bit, xor};
 ghost use Rattle.rules.specs.Walk.{free, turns, leaf, node};
 ghost use Rattle.rules.specs.Synth as Synth;
 ghost use Rattle.rules.specs.Left.{left};
@@ -20,7 +22,8 @@ ghost use Rattle.rows.specs.Rows.{rowsOf};
 ghost use Rattle.emit.specs.Emitted.{Ready, Emits};
 ghost use Rattle.walk.specs.Stack.{nothing, slotsOf, noSlot, aimTo, Branched, Peeled, Chosen};
 ghost use Rattle.walk.specs.Stack as Stack;
-ghost use Rattle.walk.specs.Place.{Wires, placeOf, Standing, Stepped, Paid, Descends, Lent, stateOf, Synthesized};
+ghost use Rattle.walk.specs.Later.{flipBetween, current, noFlips, Waits, Settles, Deferred};
+ghost use Rattle.walk.specs.Place.{Wires, placeOf, Standing, Readied, Stepped, Paid, Descends, Lent, stateOf, Synthesized};
 
 // Numbers to a node: its candidates' low and high word, its target, the control that it owes, where its set begins.
 pub const NODE_WIDTH: usize = 5;
@@ -36,12 +39,26 @@ pub struct Slot {
     pub start: usize,
 }
 
-// How many nodes wait, where the newest one's set ends, and the budget, with whether it is still kept.
+// Flips that wait: the terms before the place `upto` have yet to have the mask's columns flipped where they have the target, which is none of these columns.
+pub struct Pending {
+    pub mask: Parity,
+    pub target: u32,
+    pub upto: usize,
+}
+
+// How many nodes wait, where the newest one's set ends, the budget, with whether it is still kept, and the flips that wait.
 pub struct State {
     pub depth: usize,
     pub end: usize,
     pub budget: Budget,
     pub within: bool,
+    pub pending: Pending,
+}
+
+// What was emitted, and the flips that then wait.
+pub struct Moved {
+    pub pushed: Pushed,
+    pub pending: Pending,
 }
 
 pub fn get(nodes: &[u64], i: usize) -> Slot
@@ -132,7 +149,74 @@ fn narrowed(d: Slot, live: Parity) -> Slot
     }
 }
 
-// The owed control of the node at the place `at` is paid: the CNOT is emitted, its row added, and the terms of every waiting node take note.
+// No flips wait.
+fn no_flips() -> Pending
+    ensures { λ r. ⌜ r ≡ noFlips ⌝ }
+{
+    Pending {
+        mask: Parity { lo: 0, hi: 0 },
+        target: 0,
+        upto: 0,
+    }
+}
+
+// The terms from `from` up to `to` have the mask's columns flipped where they have t; the rest of the room is as it was.
+pub fn flip_between(room: &mut [u64], from: usize, to: usize, mask: Parity, t: u32)
+    requires { ⌜ (t < 128) × ((from ≤ to) × (to ≤ length (termsOf (now room)))) ⌝ }
+    ensures { λ r. ⌜ termsOf (now (room .exit)) ≡ flipBetween (val mask) t from to (termsOf (now (room .entry))) ⌝ }
+{
+    let a = 3 * from;
+    let e = 3 * to;
+    let count = to - from;
+    terms::flip_by(&mut room[a..e], count, mask, t);
+}
+
+// The terms from `from` on are brought up to date.
+pub fn settle(room: &mut [u64], p: Pending, from: usize) -> Pending
+    requires { ⌜ Waits p (length (termsOf (now room))) ⌝ }
+    ensures { λ r. ⌜ Settles from p r (termsOf (now (room .entry))) (termsOf (now (room .exit))) ⌝ }
+{
+    if from < p.upto {
+        let mask = p.mask;
+        let target = p.target;
+        flip_between(room, from, p.upto, mask, target);
+        Pending {
+            mask,
+            target,
+            upto: from,
+        }
+    } else {
+        p
+    }
+}
+
+// CNOTs to t from the columns of a mask pass the terms before `start`, all of which then wait for them. Those of another target that still wait are made first;
+// those of the same one join, and the terms that are already up to date are taken back to where the others stand.
+pub fn defer(room: &mut [u64], p: Pending, start: usize, mask: Parity, t: u32) -> Pending
+    requires { ⌜ Waits p (length (termsOf (now room))) ⌝ }
+    requires { ⌜ (p .upto ≤ start) × (start ≤ length (termsOf (now room))) ⌝ }
+    requires { ⌜ (t < 128) × (bit (val mask) t ≡ false) ⌝ }
+    ensures { λ r. ⌜ Deferred (val mask) t start p r (termsOf (now (room .entry))) (termsOf (now (room .exit))) ⌝ }
+{
+    if p.target == t {
+        flip_between(room, p.upto, start, p.mask, t);
+        let both = p.mask.xor(mask);
+        Pending {
+            mask: both,
+            target: t,
+            upto: start,
+        }
+    } else {
+        terms::flip_by(room, p.upto, p.mask, p.target);
+        Pending {
+            mask,
+            target: t,
+            upto: start,
+        }
+    }
+}
+
+// The owed control of the node at the place `at` is paid: the CNOT is emitted, its row added, and the terms of every waiting node are to take note.
 pub fn pay(
     room: &mut [u64],
     nodes: &mut [u64],
@@ -142,23 +226,26 @@ pub fn pay(
     b: Budget,
     at: usize,
     d: Slot,
-) -> Pushed
+    f: Pending,
+) -> Moved
     requires { ⌜ Wires (now names) ⌝ }
     requires { ⌜ (d .owed < length (now names)) × (d .target < length (now names)) ⌝ }
     requires { ⌜ length (rowsOf (now held)) ≡ length (now names) ⌝ }
     requires { ⌜ (d .start ≤ length (termsOf (now room))) × (at < length (slotsOf (now nodes))) ⌝ }
     requires { ⌜ Ready (now out) (view b) ⌝ }
-    ensures { λ r. ⌜ Paid (now (names .entry)) d at (termsOf (now (room .entry))) (termsOf (now (room .exit))) (slotsOf (now (nodes .entry))) (slotsOf (now (nodes .exit))) (rowsOf (now (held .entry))) (rowsOf (now (held .exit))) (now (out .entry)) (view b) (now (out .exit)) (view (r .budget)) (r .within) ⌝ }
+    requires { ⌜ Waits f (length (termsOf (now room))) × (f .upto ≤ d .start) ⌝ }
+    requires { ⌜ d .owed ≢ d .target ⌝ }
+    ensures { λ r. ⌜ Paid (now (names .entry)) d at (current f (termsOf (now (room .entry)))) (current (r .pending) (termsOf (now (room .exit)))) (slotsOf (now (nodes .entry))) (slotsOf (now (nodes .exit))) (rowsOf (now (held .entry))) (rowsOf (now (held .exit))) (now (out .entry)) (view b) (now (out .exit)) (view (r .pushed .budget)) (r .pushed .within) × Waits (r .pending) (length (termsOf (now (room .exit)))) ⌝ }
 {
     let p = d.owed as u32;
     let t = d.target as u32;
     let control = join::wire_of(names, Local(p));
     let target = join::wire_of(names, Local(t));
-    let w = emit::emit_cnot(out, b, control, target);
+    let pushed = emit::emit_cnot(out, b, control, target);
     rows::add(held, p as usize, t as usize);
-    terms::flip(room, d.start, p, t);
+    let pending = defer(room, f, d.start, Parity::single(p), t);
     put(nodes, at, paid(d));
-    w
+    Moved { pushed, pending }
 }
 
 // The side with the column c: it takes c as target or, with a target, owes c to it.
@@ -285,8 +372,8 @@ pub fn chain(
     w
 }
 
-// A node of one term is run down at once: a CNOT from each live column to its target, and the rotation. The terms of the waiting nodes are flipped by
-// all the columns in one pass, which is right because none of them is the target; it comes first, so that it is made though the budget is spent.
+// A node of one term is run down at once: a CNOT from each live column to its target, and the rotation. The terms of the waiting nodes are to be flipped by
+// all the columns, which is right because none of them is the target; that comes first, so that it is noted though the budget is spent.
 pub fn run_down(
     room: &mut [u64],
     held: &mut [u64],
@@ -297,44 +384,68 @@ pub fn run_down(
     end: usize,
     target: u64,
     live: Parity,
-) -> Pushed
+    f: Pending,
+) -> Moved
     requires { ⌜ Wires (now names) ⌝ }
     requires { ⌜ (target ≢ nothing → target < length (now names)) × ((val live ≢ 0) × (val live < 2 ^ length (now names))) ⌝ }
     requires { ⌜ length (rowsOf (now held)) ≡ length (now names) ⌝ }
     requires { ⌜ (start ≤ end) × (end ≤ length (termsOf (now room))) ⌝ }
     requires { ⌜ Ready (now out) (view b) ⌝ }
-    ensures { λ r. ⌜ Descends (now (names .entry)) target (val live) start end (termsOf (now (room .entry))) (termsOf (now (room .exit))) (rowsOf (now (held .entry))) (rowsOf (now (held .exit))) (now (out .entry)) (view b) (now (out .exit)) (view (r .budget)) (r .within) ⌝ }
+    requires { ⌜ Waits f (length (termsOf (now room))) × (f .upto ≤ start) ⌝ }
+    requires { ⌜ (target ≢ nothing → bit (val live) target ≡ false) ⌝ }
+    ensures { λ r. ⌜ Descends (now (names .entry)) target (val live) start end (current f (termsOf (now (room .entry)))) (current (r .pending) (termsOf (now (room .exit)))) (rowsOf (now (held .entry))) (rowsOf (now (held .exit))) (now (out .entry)) (view b) (now (out .exit)) (view (r .pushed .budget)) (r .pushed .within) × Waits (r .pending) (length (termsOf (now (room .exit)))) ⌝ }
 {
     let goal = choose(target, live);
     let t = goal.column;
-    terms::flip_by(&mut *room, start, goal.mask, t);
+    let pending = defer(&mut *room, f, start, goal.mask, t);
     let w = chain(&mut *held, names, &mut *out, b, goal.mask, t);
     if w.within {
-        return end_leaf(
+        let pushed = end_leaf(
             &room[3 * start..3 * end],
             t as u64,
             names,
             &mut *out,
             w.budget,
         );
+        return Moved { pushed, pending };
     }
-    w
+    Moved { pushed: w, pending }
 }
 
 // The state after a turn.
-fn after(depth: usize, end: usize, w: Pushed) -> State
-    ensures { λ r. ⌜ r ≡ stateOf depth end w ⌝ }
+fn after(depth: usize, end: usize, w: Pushed, f: Pending) -> State
+    ensures { λ r. ⌜ r ≡ stateOf depth end w f ⌝ }
 {
     let budget = w.budget;
+    let pending = f;
     State {
         depth,
         end,
         budget,
         within: w.within,
+        pending,
     }
 }
 
-// One turn of the walk, at the newest node, by document 01's four rules. Candidates that no term of its set has are dropped before the last two:
+// The newest node's set is brought up to date.
+fn ready(room: &mut [u64], nodes: &[u64], s: State) -> State
+    requires { ⌜ (0 < s .depth) × (s .depth - 1 < length (slotsOf (now nodes))) ⌝ }
+    requires { ⌜ Waits (s .pending) (length (termsOf (now room))) ⌝ }
+    ensures { λ r. ⌜ Readied (now (nodes .entry)) (now (room .entry)) (now (room .exit)) s r ⌝ }
+{
+    let d = get(nodes, s.depth - 1);
+    let pending = settle(room, s.pending, d.start);
+    let budget = s.budget;
+    State {
+        depth: s.depth,
+        end: s.end,
+        budget,
+        within: s.within,
+        pending,
+    }
+}
+
+// One turn of the walk, at the newest node, whose set is up to date, by document 01's four rules. Candidates that no term of its set has are dropped before the last two:
 // a split by such a column would only take the column out. Those of a node of one term are then all columns of it, and all its turns are made at once.
 pub fn step(
     room: &mut [u64],
@@ -346,34 +457,36 @@ pub fn step(
 ) -> State
     requires { ⌜ Standing (now names) (placeOf (now nodes) (now room) (now held) (now out) s) ⌝ }
     requires { ⌜ 0 < s .depth ⌝ }
-    ensures { λ r. ⌜ Stepped (now (names .entry)) (placeOf (now (nodes .entry)) (now (room .entry)) (now (held .entry)) (now (out .entry)) s) (placeOf (now (nodes .exit)) (now (room .exit)) (now (held .exit)) (now (out .exit)) r) (r .within) ⌝ }
+    requires { ⌜ Waits (s .pending) (length (termsOf (now room))) × (s .pending .upto ≤ getD (slotsOf (now nodes)) (s .depth - 1) noSlot .start) ⌝ }
+    ensures { λ r. ⌜ Stepped (now (names .entry)) (placeOf (now (nodes .entry)) (now (room .entry)) (now (held .entry)) (now (out .entry)) s) (placeOf (now (nodes .exit)) (now (room .exit)) (now (held .exit)) (now (out .exit)) r) (r .within) × Waits (r .pending) (length (termsOf (now (room .exit)))) ⌝ }
 {
     let at = s.depth - 1;
     let d = get(&*nodes, at);
     let b = s.budget;
     let end = s.end;
+    let f = s.pending;
     let quiet = Pushed {
         budget: b,
         within: true,
     };
     if d.start == end {
-        return after(at, end, quiet);
+        return after(at, end, quiet, f);
     }
     if (d.target != NONE) & (d.owed != NONE) {
-        let w = pay(room, nodes, held, names, out, b, at, d);
-        return after(s.depth, end, w);
+        let m = pay(room, nodes, held, names, out, b, at, d, f);
+        return after(s.depth, end, m.pushed, m.pending);
     }
     let live = column::seen(&room[3 * d.start..3 * end], d.cands);
     if live.is_zero() {
         let w = end_leaf(&room[3 * d.start..3 * end], d.target, names, out, b);
-        return after(at, d.start, w);
+        return after(at, d.start, w, f);
     }
     if end - d.start == 1 {
-        let w = run_down(room, held, names, out, b, d.start, end, d.target, live);
-        return after(at, d.start, w);
+        let m = run_down(room, held, names, out, b, d.start, end, d.target, live, f);
+        return after(at, d.start, m.pushed, m.pending);
     }
     branch(room, nodes, at, narrowed(d, live), end);
-    after(s.depth + 1, end, quiet)
+    after(s.depth + 1, end, quiet, f)
 }
 
 // The node with which the walk begins: no target, nothing owed, all the terms.
@@ -406,9 +519,10 @@ pub fn gray_synth(
         budget: b,
         within: true,
     };
-    let mut s = after(1, room.len() / 3, quiet);
+    let mut s = after(1, room.len() / 3, quiet, no_flips());
     while (s.depth > 0) & s.within {
-        s = step(&mut *room, &mut *nodes, &mut *held, names, &mut *out, s);
+        let next = ready(&mut *room, &*nodes, s);
+        s = step(&mut *room, &mut *nodes, &mut *held, names, &mut *out, next);
     }
     let budget = s.budget;
     Pushed {

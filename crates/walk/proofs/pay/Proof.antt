@@ -3,7 +3,9 @@ use mathlib.Core.Path.{_≡_, ap, _∙_}
 use native.Mathlib.Omega.{arith}
 use borrow.Author.Needs.{needs}
 use lib.ListN.{set}
+use Rattle.rules.proofs.Chain.{cross-flip}
 use Rattle.walk.specs.Stack.{slotsOf}
+use Rattle.walk.proofs.Deferring.{other-bit}
 use Rattle.walk.proofs.Aims.{emit-cn}
 use Rattle.walk.proofs.pay.Statement.{statement}
 use Rattle.walk.proofs.pay.Tie as tie
@@ -23,7 +25,7 @@ wire-of-requires-2 c κs = (c .before .before .before .before .before .before .b
 emit-cnot-requires : tie.Need-emit-cnot-requires
 emit-cnot-requires c κs =
     let s = (c .before .before .before .before .before .before .before .before .before) in
-    (s .pre .1 .1 .1 .1, (rw ((c .before .before) .wire-of .ensures) (s .pre .0 .each (s .args .d .owed) (s .pre .1 .0 .0)), rw ((c .before) .wire-of2 .ensures) (s .pre .0 .each (s .args .d .target) (s .pre .1 .0 .1))))
+    (s .pre .1 .1 .1 .1 .0, (rw ((c .before .before) .wire-of .ensures) (s .pre .0 .each (s .args .d .owed) (s .pre .1 .0 .0)), rw ((c .before) .wire-of2 .ensures) (s .pre .0 .each (s .args .d .target) (s .pre .1 .0 .1))))
 
 cast-add : tie.Need-cast-add
 cast-add c = omega (arith, (c .before .before .before .before .before .before .before .before .before .before .before .before) .pre .1 .0 .0, (c .before .before .before .before .before .before .before .before .before .before .before .before) .pre .0 .few)
@@ -36,13 +38,16 @@ add-requires c κs =
     let s = (c .before .before .before .before .before .before .before .before .before .before .before .before) in
     (rw (s .pre .1 .1 .0) (s .pre .1 .0 .0), rw (s .pre .1 .1 .0) (s .pre .1 .0 .1))
 
-flip-requires : tie.Need-flip-requires
-flip-requires c κs =
-    let s = (c .before .before .before .before .before .before .before .before .before .before .before .before .before .before .before .before) in
-    (omega (arith, s .pre .1 .0 .0, s .pre .0 .few), (omega (arith, s .pre .1 .0 .1, s .pre .0 .few), s .pre .1 .1 .1 .0 .0))
+single-requires : tie.Need-single-requires
+single-requires c κs = let s = (c .before .before .before .before .before .before .before .before .before .before .before .before .before .before .before .before) in omega (arith, s .pre .1 .0 .0, s .pre .0 .few)
+
+defer-requires : tie.Need-defer-requires
+defer-requires c κs =
+    let s = (c .before .before .before .before .before .before .before .before .before .before .before .before .before .before .before .before .before) in
+    (s .pre .1 .1 .1 .1 .1 .0 .0, ((s .pre .1 .1 .1 .1 .1 .0 .1, s .pre .1 .1 .1 .0 .0), (omega (arith, s .pre .1 .0 .1, s .pre .0 .few), rw (c .single .ensures) (other-bit _ _ (s .pre .1 .1 .1 .1 .1 .1)))))
 
 put-requires : tie.Need-put-requires
-put-requires c κs = (c .before .before .before .before .before .before .before .before .before .before .before .before .before .before .before .before .before .before .before .before .before) .pre .1 .1 .1 .0 .1
+put-requires c κs = (c .before .before .before .before .before .before .before .before .before .before .before .before .before .before .before .before .before .before .before .before .before .before) .pre .1 .1 .1 .0 .1
 
 same-length : tie.Need-same-length
 same-length c = search needs
@@ -58,12 +63,16 @@ same-length-4 c = search needs
 
 returns : tie.Need-returns
 returns c =
-    record {
-      emits = rw (emit-cn _ _ _ _ _ ((c .before .before .before .before .before .before .before .before .before .before .before .before .before .before .before .before .before) .wire-of .ensures) ((c .before .before .before .before .before .before .before .before .before .before .before .before .before .before .before .before) .wire-of2 .ensures)) ((c .before .before .before .before .before .before .before .before .before .before .before .before .before .before) .emit-cnot .ensures);
-      rows = (c .before .before .before .before .before .before .before .before .before .before .before) .add .ensures;
-      terms = (c .before .before .before .before .before .before .before) .flip .ensures;
-      slots = (c .before .before) .put .ensures ∙ ap (set (slotsOf ((c .before .before .before .before .before .before .before .before .before .before .before .before .before .before .before .before .before .before .before .before .before .before .before .before) .args .nodes .now)) ((c .before .before .before .before .before .before .before .before .before .before .before .before .before .before .before .before .before .before .before .before .before .before .before .before) .args .at)) ((c .before .before .before) .paid .ensures);
-    }
+    let s = (c .before .before .before .before .before .before .before .before .before .before .before .before .before .before .before .before .before .before .before .before .before .before .before .before .before) in
+    let passed = (c .before .before .before .before .before .before .before) .defer .ensures in (
+      record {
+        emits = rw (emit-cn _ _ _ _ _ ((c .before .before .before .before .before .before .before .before .before .before .before .before .before .before .before .before .before .before) .wire-of .ensures) ((c .before .before .before .before .before .before .before .before .before .before .before .before .before .before .before .before .before) .wire-of2 .ensures)) ((c .before .before .before .before .before .before .before .before .before .before .before .before .before .before .before) .emit-cnot .ensures);
+        rows = (c .before .before .before .before .before .before .before .before .before .before .before .before) .add .ensures;
+        terms = rw (cross-flip _ _ _) (rw ((c .before .before .before .before .before .before .before .before) .single .ensures) at (passed .terms));
+        slots = (c .before .before) .put .ensures ∙ ap (set (slotsOf (s .args .nodes .now)) (s .args .at)) ((c .before .before .before) .paid .ensures);
+      },
+      passed .waits,
+    )
 
 paid-requires : tie.Need-paid-requires
 paid-requires c κs = tt
@@ -80,7 +89,8 @@ pay-spec =
     cast-add
     cast-add-2
     add-requires
-    flip-requires
+    single-requires
+    defer-requires
     paid-requires
     put-requires
     same-length
