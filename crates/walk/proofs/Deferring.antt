@@ -6,22 +6,22 @@
 --     now-branched    a split of them is one of the terms as they are now
 use mathlib.Core.Path.{_≡_, refl, sym, ap, ap₂, _∙_, subst}
 use mathlib.Core.Logic.{_≢_}
-use mathlib.Core.Bool.{Bool, true, false, cond}
+use mathlib.Core.Bool.{true, false}
 use mathlib.Core.List.{List, [], _∷_, _++_, append-nil}
 use Prim.Native.Nat.{ℕ, zero, suc, _-_, _*_, _^_, _≤_, _<_}
 use native.Mathlib.Nat.{not-suc-le-zero, le-of-suc-le-suc}
 use native.Mathlib.Omega.{arith}
 use lib.ListN.{length, take, drop, length-drop, take-append-drop}
-use lib.Seq.{slice, take-length, length-take-le}
+use lib.Seq.{slice, length-take-le}
 use borrow.Author.Tests.{ne-eqb}
 use borrow.Rule.Slice.PartMut.{putMid}
-use Rattle.rules.specs.Bit.{_⊕_, bit, xor}
+use Rattle.rules.specs.Bit.{bit, xor}
 use Rattle.rules.specs.Fold.{Term}
 use Rattle.rules.specs.Shortcuts.{flipped, flipTerms}
 use Rattle.rules.proofs.Bits.{split, bit-zero, bit-xor, bit-unit}
 use Rattle.parity.specs.View.{val}
 use Rattle.parity.proofs.Laws.{xor-assoc, xor-self, xor-zero-l}
-use Rattle.terms.specs.Terms.{termsOf, Begins, Sides, SplitAt}
+use Rattle.terms.specs.Terms.{termsOf, Begins, Sides}
 use Rattle.terms.proofs.Room.{room-same}
 use Rattle.terms.proofs.Crossing.{passed, cross-length, cross-front}
 use Rattle.terms.proofs.Parts.{part-terms, part-back}

@@ -1,6 +1,5 @@
 -- `walk::defer` meets its contract, by whether the target is that of the flips that wait.
-use mathlib.Core.Path.{_≡_, refl, ap, _∙_, sym}
-use native.Mathlib.Omega.{arith}
+use mathlib.Core.Path.{refl}
 use borrow.Author.Needs.{needs}
 use Rattle.terms.proofs.Room.{room-same}
 use Rattle.walk.proofs.Deferring.{deferred-same, deferred-new}

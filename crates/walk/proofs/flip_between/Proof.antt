@@ -1,9 +1,7 @@
 -- `walk::flip_between` meets its contract, by what `terms::flip_by` ensures of the part.
 use native.Mathlib.Omega.{arith}
 use borrow.Author.Needs.{needs}
-use lib.ListN.{length}
 use Rattle.terms.proofs.Room.{room-length}
-use Rattle.terms.proofs.Parts.{part-terms}
 use Rattle.walk.proofs.Deferring.{part-many, passed-part}
 use Rattle.walk.proofs.flip_between.Statement.{statement}
 use Rattle.walk.proofs.flip_between.Tie as tie

@@ -1,7 +1,6 @@
 -- `walk::ready` meets its contract, by what `settle` ensures.
-use mathlib.Core.Path.{_≡_, refl, ap}
+use mathlib.Core.Path.{refl, ap}
 use mathlib.Core.List.{List}
-use native.Mathlib.Omega.{arith}
 use borrow.Author.Needs.{needs}
 use Rattle.rules.specs.Fold.{Term}
 use Rattle.budget.specs.View.{view}
