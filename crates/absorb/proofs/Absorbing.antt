@@ -24,7 +24,7 @@ use Rattle.rules.specs.Scan.{roomy, takes}
 use Rattle.rules.proofs.Bits.{split, bit-xor, bit-unit, bit-zero, ⊕-false, and-left, and-right}
 use Rattle.parity.specs.View.{val}
 use Rattle.parity.proofs.Laws.{xor-zero-r}
-use Rattle.terms.specs.Terms.{termsOf}
+use Rattle.terms.specs.Terms.{termsOf, Indexed}
 use Rattle.rows.specs.Rows.{rowsOf}
 use Rattle.gate.specs.Writing.{gateOf}
 use Rattle.gate.specs.declared.Gate.{Gate}
@@ -109,25 +109,25 @@ pub terms-same : (b r : State.Block) (room : List ℕ) → r .terms ≡ b .terms
 unfolding termsAt
 terms-same b r room e = rw e
 
-module _ (rs : List Row) (ts : List Term) (b r : State.Block) (names rows room table′ names′ rows′ : List ℕ) where
+module _ (rs : List Row) (ts : List Term) (b r : State.Block) (names rows room table′ names′ rows′ heads : List ℕ) (x : Indexed heads room (b .terms)) where
   kept : Folded ts b room → r .terms ≡ b .terms → Folded ts r room
   kept f e = record { few = rw e (f .few); same = terms-same b r room e ∙ f .same }
 
   pub flip-absorbs : (q : ℕ) → Moves (rowsBy (flip q) (entered (flip q) rs)) b r names rows table′ names′ rows′ → Folded ts b room
-      → Absorbs (absorb (flip q) (record { rows = rs; terms = ts })) b r names rows room table′ names′ rows′ room
+      → Absorbs (absorb (flip q) (record { rows = rs; terms = ts })) b r names rows room table′ names′ rows′ room heads
   unfolding absorb termsBy
-  flip-absorbs q m f = record { holds = record { rows-are = m .joined; terms-are = kept f (m .terms) }; more = m .more; grows = omega (arith, m .terms); behind = m .behind; rest = refl }
+  flip-absorbs q m f = record { holds = record { rows-are = m .joined; terms-are = kept f (m .terms) }; more = m .more; grows = omega (arith, m .terms); behind = m .behind; rest = refl; indexed = rw (m .terms) x }
 
   pub cnot-absorbs : (c t : ℕ) → Moves (rowsBy (cnot c t) (entered (cnot c t) rs)) b r names rows table′ names′ rows′ → Folded ts b room
-      → Absorbs (absorb (cnot c t) (record { rows = rs; terms = ts })) b r names rows room table′ names′ rows′ room
+      → Absorbs (absorb (cnot c t) (record { rows = rs; terms = ts })) b r names rows room table′ names′ rows′ room heads
   unfolding absorb termsBy
-  cnot-absorbs c t m f = record { holds = record { rows-are = m .joined; terms-are = kept f (m .terms) }; more = m .more; grows = omega (arith, m .terms); behind = m .behind; rest = refl }
+  cnot-absorbs c t m f = record { holds = record { rows-are = m .joined; terms-are = kept f (m .terms) }; more = m .more; grows = omega (arith, m .terms); behind = m .behind; rest = refl; indexed = rw (m .terms) x }
 
 -- e is the block with the gate's wires joined, r the block after
-module _ (rs : List Row) (b e r : State.Block) (names rows table′ names′ rows′ room room′ : List ℕ) (same : e .terms ≡ b .terms) (more : b .wires ≤ e .wires) (behind : Behind e names rows names′ rows′) where
+module _ (rs : List Row) (b e r : State.Block) (names rows table′ names′ rows′ room room′ heads′ : List ℕ) (same : e .terms ≡ b .terms) (more : b .wires ≤ e .wires) (behind : Behind e names rows names′ rows′) where
   pub turn-absorbs : (k i q : ℕ) → Joined (join q rs) e table′ names′ rows′ → i < e .wires → getD names′ i 0 ≡ q
-      → Turns (addTerm (getD (rowsOf rows′) i 0) (signed (bit (val (e .flips)) i) k) (termsAt e room)) e r room room′
-      → Absorbs (absorb (phase k q) (record { rows = rs; terms = termsAt b room })) b r names rows room table′ names′ rows′ room′
+      → Turns (addTerm (getD (rowsOf rows′) i 0) (signed (bit (val (e .flips)) i) k) (termsAt e room)) e r room room′ heads′
+      → Absorbs (absorb (phase k q) (record { rows = rs; terms = termsAt b room })) b r names rows room table′ names′ rows′ room′ heads′
   unfolding absorb entered rowsBy termsBy
   turn-absorbs k i q h l n t = record {
     holds = record {
@@ -138,11 +138,12 @@ module _ (rs : List Row) (b e r : State.Block) (names rows table′ names′ row
     grows = omega (arith, same, t .grows);
     behind = behind-same e r names rows names′ rows′ (t .wires) behind;
     rest = t .rest;
+    indexed = t .indexed;
   }
 
   pub cz-absorbs : (i j c t : ℕ) → Joined (join t (join c rs)) e table′ names′ rows′ → i < e .wires → j < e .wires → getD names′ i 0 ≡ c → getD names′ j 0 ≡ t
-      → Turns (czTerms (getD (rowsOf rows′) i 0) (bit (val (e .flips)) i) (getD (rowsOf rows′) j 0) (bit (val (e .flips)) j) (termsAt e room)) e r room room′
-      → Absorbs (absorb (cz c t) (record { rows = rs; terms = termsAt b room })) b r names rows room table′ names′ rows′ room′
+      → Turns (czTerms (getD (rowsOf rows′) i 0) (bit (val (e .flips)) i) (getD (rowsOf rows′) j 0) (bit (val (e .flips)) j) (termsAt e room)) e r room room′ heads′
+      → Absorbs (absorb (cz c t) (record { rows = rs; terms = termsAt b room })) b r names rows room table′ names′ rows′ room′ heads′
   unfolding absorb entered rowsBy termsBy
   cz-absorbs i j c t h li lj ni nj k = record {
     holds = record {
@@ -153,13 +154,14 @@ module _ (rs : List Row) (b e r : State.Block) (names rows table′ names′ row
     grows = omega (arith, same, k .grows);
     behind = behind-same e r names rows names′ rows′ (k .wires) behind;
     rest = k .rest;
+    indexed = k .indexed;
   }
 
-pub absorb-ready : {p : Block} {b : State.Block} {table names rows room : List ℕ} → Holds p b table names rows room
-    → (g : Gate) (plan : Plan) → Wired g table → plan .qubits ≤ maxColumns → b .terms + 3 ≤ length (termsOf room)
-    → takes plan (op (gateOf g)) p ≡ true → Absorbable b g table names rows room
+pub absorb-ready : {p : Block} {b : State.Block} {table names rows room heads : List ℕ} → Holds p b table names rows room
+    → (g : Gate) (plan : Plan) → Wired g table → plan .qubits ≤ maxColumns → b .terms + 3 ≤ length (termsOf room) → b .terms + 3 ≤ 2 ^ 32 → Indexed heads room (b .terms)
+    → takes plan (op (gateOf g)) p ≡ true → Absorbable b g table names rows room heads
 unfolding takes
-absorb-ready {p} h g plan w l m t =
+absorb-ready {p} h g plan w l m low x t =
     let o : Op = op (gateOf g) in
     let clear : not (opaque o) ≡ true = and-left (not (opaque o)) (leb (length (entered o (p .rows))) (plan .qubits) && roomy (plan .terms) o p) t in
     let rest = and-right (not (opaque o)) (leb (length (entered o (p .rows))) (plan .qubits) && roomy (plan .terms) o p) t in
@@ -172,4 +174,6 @@ absorb-ready {p} h g plan w l m t =
       most = code .1;
       few = rw (h .rows-are .same) (le-trans fits l);
       spare = m;
+      low = low;
+      indexed = x;
     }

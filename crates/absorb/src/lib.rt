@@ -7,12 +7,12 @@ use rules::CODE_CZ;
 use rules::CODE_RZ;
 use rules::CODE_X;
 ghost use mathlib.Core.Path.{_≡_};
-ghost use Prim.Native.Nat.{_+_, _≤_, _<_};
+ghost use Prim.Native.Nat.{_+_, _^_, _≤_, _<_};
 ghost use lib.ListN.{length};
 ghost use Rattle.rules.specs.Meaning.{op, flip, phase, cnot, cz};
 ghost use Rattle.rules.specs.Fold as Fold;
 ghost use Rattle.gate.specs.Writing.{gateOf};
-ghost use Rattle.terms.specs.Terms.{termsOf};
+ghost use Rattle.terms.specs.Terms.{termsOf, Indexed};
 ghost use Rattle.block.specs.View.{rowsAt, blockAt};
 ghost use Rattle.block.specs.Steps.{Enterable, EnterableTwo, namedTurn, turnOf};
 ghost use Rattle.absorb.specs.Absorbing.{Moves, Absorbs, Absorbable};
@@ -53,15 +53,17 @@ fn absorb_turn(
     names: &mut [u32],
     rows: &mut [u64],
     room: &mut [u64],
+    heads: &mut [u32],
 ) -> Block
     requires { ⌜ Enterable b (q .0) (now table) (now names) (now rows) ⌝ }
     requires { ⌜ b .terms < length (termsOf (now room)) ⌝ }
-    ensures { λ r. ⌜ Absorbs (Fold.absorb (phase k (q .0)) (blockAt b (now (names .entry)) (now (rows .entry)) (now (room .entry)))) b r (now (names .entry)) (now (rows .entry)) (now (room .entry)) (now (table .exit)) (now (names .exit)) (now (rows .exit)) (now (room .exit)) ⌝ }
+    requires { ⌜ (b .terms < 2 ^ 32) × Indexed (now heads) (now room) (b .terms) ⌝ }
+    ensures { λ r. ⌜ Absorbs (Fold.absorb (phase k (q .0)) (blockAt b (now (names .entry)) (now (rows .entry)) (now (room .entry)))) b r (now (names .entry)) (now (rows .entry)) (now (room .entry)) (now (table .exit)) (now (names .exit)) (now (rows .exit)) (now (room .exit)) (now (heads .exit)) ⌝ }
 {
     let e = block::enter(b, q, table, names, &mut *rows);
     let block = e.block;
     let at = e.at;
-    block::fold_turn(block, at, k, &*rows, room)
+    block::fold_turn(block, at, k, &*rows, room, heads)
 }
 
 fn absorb_cz(
@@ -72,16 +74,18 @@ fn absorb_cz(
     names: &mut [u32],
     rows: &mut [u64],
     room: &mut [u64],
+    heads: &mut [u32],
 ) -> Block
     requires { ⌜ EnterableTwo b (c .0) (t .0) (now table) (now names) (now rows) ⌝ }
     requires { ⌜ b .terms + 3 ≤ length (termsOf (now room)) ⌝ }
-    ensures { λ r. ⌜ Absorbs (Fold.absorb (cz (c .0) (t .0)) (blockAt b (now (names .entry)) (now (rows .entry)) (now (room .entry)))) b r (now (names .entry)) (now (rows .entry)) (now (room .entry)) (now (table .exit)) (now (names .exit)) (now (rows .exit)) (now (room .exit)) ⌝ }
+    requires { ⌜ (b .terms + 3 ≤ 2 ^ 32) × Indexed (now heads) (now room) (b .terms) ⌝ }
+    ensures { λ r. ⌜ Absorbs (Fold.absorb (cz (c .0) (t .0)) (blockAt b (now (names .entry)) (now (rows .entry)) (now (room .entry)))) b r (now (names .entry)) (now (rows .entry)) (now (room .entry)) (now (table .exit)) (now (names .exit)) (now (rows .exit)) (now (room .exit)) (now (heads .exit)) ⌝ }
 {
     let e = block::enter_two(b, c, t, table, names, &mut *rows);
     let block = e.block;
     let control = e.control;
     let target = e.target;
-    block::fold_cz(block, control, target, &*rows, room)
+    block::fold_cz(block, control, target, &*rows, room, heads)
 }
 
 // The turn that a name stands for: t, tdg, s, sdg, z, by its place in a table. A chain of tests becomes a jump by the code, which random codes miss.
@@ -108,9 +112,10 @@ pub fn absorb(
     names: &mut [u32],
     rows: &mut [u64],
     room: &mut [u64],
+    heads: &mut [u32],
 ) -> Block
-    requires { ⌜ Absorbable b g (now table) (now names) (now rows) (now room) ⌝ }
-    ensures { λ r. ⌜ Absorbs (Fold.absorb (op (gateOf g)) (blockAt b (now (names .entry)) (now (rows .entry)) (now (room .entry)))) b r (now (names .entry)) (now (rows .entry)) (now (room .entry)) (now (table .exit)) (now (names .exit)) (now (rows .exit)) (now (room .exit)) ⌝ }
+    requires { ⌜ Absorbable b g (now table) (now names) (now rows) (now room) (now heads) ⌝ }
+    ensures { λ r. ⌜ Absorbs (Fold.absorb (op (gateOf g)) (blockAt b (now (names .entry)) (now (rows .entry)) (now (room .entry)))) b r (now (names .entry)) (now (rows .entry)) (now (room .entry)) (now (table .exit)) (now (names .exit)) (now (rows .exit)) (now (room .exit)) (now (heads .exit)) ⌝ }
 {
     let code = g.code;
     let first = Wire(g.first);
@@ -122,8 +127,8 @@ pub fn absorb(
         return absorb_cnot(b, first, second, table, names, rows);
     }
     if code == CODE_CZ {
-        return absorb_cz(b, first, second, table, names, rows, room);
+        return absorb_cz(b, first, second, table, names, rows, room, heads);
     }
     let k = turn_of(code, g.turn);
-    absorb_turn(b, first, k, table, names, rows, room)
+    absorb_turn(b, first, k, table, names, rows, room, heads)
 }

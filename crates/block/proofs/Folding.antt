@@ -31,9 +31,9 @@ unfolding addTerm
 fold-grows p k [] = omega arith
 fold-grows p k (t ∷ ts) = split (eqb (t .parity) p) (λ e. rw e (omega arith)) (λ e. rw e (omega (arith, fold-grows p k ts)))
 
-module _ (p k : ℕ) (b r : State.Block) (room room′ : List ℕ) (few : b .terms ≤ length (termsOf room))
-    (a : Adds (addTerm p k (take (b .terms) (termsOf room))) (r .terms) room room′) where
-  pub folds-one : r .wires ≡ b .wires → r .flips ≡ b .flips → TurnsOne (addTerm p k (termsAt b room)) b r room room′
+module _ (p k : ℕ) (b r : State.Block) (room room′ heads′ : List ℕ) (few : b .terms ≤ length (termsOf room))
+    (a : Adds (addTerm p k (take (b .terms) (termsOf room))) (r .terms) room room′ heads′) where
+  pub folds-one : r .wires ≡ b .wires → r .flips ≡ b .flips → TurnsOne (addTerm p k (termsAt b room)) b r room room′ heads′
   unfolding termsAt
   folds-one w f =
       let e = a .begins in
@@ -42,14 +42,14 @@ module _ (p k : ℕ) (b r : State.Block) (room room′ : List ℕ) (few : b .ter
       let n = length-take-le (b .terms) (termsOf room) few in
       let ts : List Term = take (b .terms) (termsOf room) in
       record {
-        turns = record { wires = w; flips = f; folded = record { few = omega (arith, s, t); same = e .front }; grows = omega (arith, e .many, fold-grows p k ts); rest = a .rest };
+        turns = record { wires = w; flips = f; folded = record { few = omega (arith, s, t); same = e .front }; grows = omega (arith, e .many, fold-grows p k ts); rest = a .rest; indexed = a .indexed };
         more = omega (arith, e .many, length-addTerm p k ts);
       }
 
 -- the fold of a rotation, by what was read of its wire
-pub turn-turns : (p v : ℕ) (s t : Bool) (k : ℕ) (ts : List Term) (b r : State.Block) (room room′ : List ℕ) → p ≡ v → s ≡ t
-    → Turns (addTerm p (signed s k) ts) b r room room′ → Turns (addTerm v (signed t k) ts) b r room room′
-turn-turns p v s t k ts b r room room′ e f h = rw (e, f) at h
+pub turn-turns : (p v : ℕ) (s t : Bool) (k : ℕ) (ts : List Term) (b r : State.Block) (room room′ heads′ : List ℕ) → p ≡ v → s ≡ t
+    → Turns (addTerm p (signed s k) ts) b r room room′ heads′ → Turns (addTerm v (signed t k) ts) b r room room′ heads′
+turn-turns p v s t k ts b r room room′ heads′ e f h = rw (e, f) at h
 
 -- the constants differ, as the code tests it
 pub differ-is : (s t : Bool) → not (Bool·beq s t) ≡ (s ⊕ t)
@@ -59,10 +59,10 @@ differ-is false true = refl
 differ-is false false = refl
 
 -- the three folds of cz
-pub cz-turns : (x y z : ℕ) (s t u : Bool) (b one two r : State.Block) (room room1 room2 room3 : List ℕ)
-    → TurnsOne (addTerm x (signed s 2) (termsAt b room)) b one room room1 → TurnsOne (addTerm y (signed t 2) (termsAt one room1)) one two room1 room2
-    → TurnsOne (addTerm z (signed u 6) (termsAt two room2)) two r room2 room3 → z ≡ xor x y → u ≡ (s ⊕ t) → Turns (czTerms x s y t (termsAt b room)) b r room room3
-cz-turns x y z s t u b one two r room room1 room2 room3 first second third v w =
+pub cz-turns : (x y z : ℕ) (s t u : Bool) (b one two r : State.Block) (room room1 room2 room3 heads1 heads2 heads3 : List ℕ)
+    → TurnsOne (addTerm x (signed s 2) (termsAt b room)) b one room room1 heads1 → TurnsOne (addTerm y (signed t 2) (termsAt one room1)) one two room1 room2 heads2
+    → TurnsOne (addTerm z (signed u 6) (termsAt two room2)) two r room2 room3 heads3 → z ≡ xor x y → u ≡ (s ⊕ t) → Turns (czTerms x s y t (termsAt b room)) b r room room3 heads3
+cz-turns x y z s t u b one two r room room1 room2 room3 heads1 heads2 heads3 first second third v w =
     let e = first .turns in
     let f = second .turns in
     let g = third .turns in
@@ -78,4 +78,5 @@ cz-turns x y z s t u b one two r room room1 room2 room3 first second third v w =
       rest =
           g .rest ∙ behind-more (termWidth * two .terms) end room2 room1 (omega (arith, g .grows)) (f .rest)
           ∙ behind-more (termWidth * one .terms) end room1 room (omega (arith, f .grows, g .grows)) (e .rest);
+      indexed = g .indexed;
     }

@@ -12,6 +12,7 @@ use Rattle.rules.specs.Gate.{second, codeRz}
 use Rattle.rules.specs.Fold.{Term, join, addTerm, signed}
 use Rattle.rules.specs.Close.{addTo}
 use Rattle.parity.specs.View.{val}
+use Rattle.terms.specs.Terms.{Indexed}
 use Rattle.rows.specs.Rows.{rowsOf}
 use Rattle.block.specs.View.{rowsAt, Joined, Folded, Rowed}
 use Rattle.block.specs.declared.Block.{Block}
@@ -78,17 +79,18 @@ pub record Crosses (b : Block) (c t : ℕ) (s : Bool) (rows : List ℕ) (r : Blo
   pub held : rowsOf rows′ ≡ addTo c t (rowsOf rows)
   pub rest : drop (2 * b .wires) rows′ ≡ drop (2 * b .wires) rows
 
--- only the terms change; behind them the term room is as it was
-pub record Turns (ts : List Term) (b r : Block) (room room′ : List ℕ) : Type 0 where
+-- only the terms change, and the heads are of their index; behind them the term room is as it was
+pub record Turns (ts : List Term) (b r : Block) (room room′ heads′ : List ℕ) : Type 0 where
   pub wires : r .wires ≡ b .wires
   pub flips : r .flips ≡ b .flips
   pub folded : Folded ts r room′
   pub grows : b .terms ≤ r .terms
   pub rest : drop (termWidth * r .terms) room′ ≡ drop (termWidth * r .terms) room
+  pub indexed : Indexed heads′ room′ (r .terms)
 
 -- a fold of one term, which makes at most one more
-pub record TurnsOne (ts : List Term) (b r : Block) (room room′ : List ℕ) : Type 0 where
-  pub turns : Turns ts b r room room′
+pub record TurnsOne (ts : List Term) (b r : Block) (room room′ heads′ : List ℕ) : Type 0 where
+  pub turns : Turns ts b r room room′ heads′
   pub more : r .terms ≤ b .terms + 1
 
 -- the three folds of cz: on the parity x with the constant a, on y with b, on their sum with the constants' sum

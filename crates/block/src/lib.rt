@@ -1,18 +1,18 @@
 // The block under construction: gates fold into its rows, constants and terms. The state goes by value, beside the rooms that are lent:
-// names and table of the join table, rows of two words, term room.
+// names and table of the join table, rows of two words, term room and the heads of its index.
 use join::Local;
 use join::Place;
 use join::Wire;
 use parity::Parity;
 ghost use mathlib.Core.Path.{_≡_};
 ghost use mathlib.Core.Bool.{true};
-ghost use Prim.Native.Nat.{_+_, _≤_, _<_};
+ghost use Prim.Native.Nat.{_+_, _^_, _≤_, _<_};
 ghost use lib.ListN.{length, getD};
 ghost use Rattle.rules.specs.Limits.{maxColumns};
 ghost use Rattle.rules.specs.Bit.{bit};
 ghost use Rattle.rules.specs.Fold as Fold;
 ghost use Rattle.parity.specs.View.{val};
-ghost use Rattle.terms.specs.Terms.{termsOf};
+ghost use Rattle.terms.specs.Terms.{termsOf, Indexed};
 ghost use Rattle.rows.specs.Rows.{rowsOf};
 ghost use Rattle.block.specs.View.{termsAt};
 ghost use Rattle.block.specs.Steps.{Empty, Enterable, Enters, EnterableTwo, EntersTwo, Flips, Crosses, Turns, TurnsOne, czTerms};
@@ -138,12 +138,13 @@ pub fn fold_cnot(b: Block, c: Local, t: Local, rows: &mut [u64]) -> Block
 }
 
 // A turn on a parity, negated by its constant.
-fn fold(b: Block, p: Parity, flips: bool, k: u8, room: &mut [u64]) -> Block
+fn fold(b: Block, p: Parity, flips: bool, k: u8, room: &mut [u64], heads: &mut [u32]) -> Block
     requires { ⌜ b .terms < length (termsOf (now room)) ⌝ }
-    ensures { λ r. ⌜ TurnsOne (Fold.addTerm (val p) (Fold.signed flips k) (termsAt b (now (room .entry)))) b r (now (room .entry)) (now (room .exit)) ⌝ }
+    requires { ⌜ (b .terms < 2 ^ 32) × Indexed (now heads) (now room) (b .terms) ⌝ }
+    ensures { λ r. ⌜ TurnsOne (Fold.addTerm (val p) (Fold.signed flips k) (termsAt b (now (room .entry)))) b r (now (room .entry)) (now (room .exit)) (now (heads .exit)) ⌝ }
 {
     let constants = b.flips;
-    let terms = terms::add_term(room, b.terms, p, flips, k);
+    let terms = terms::add_term(room, b.terms, p, flips, k, heads);
     Block {
         wires: b.wires,
         flips: constants,
@@ -152,27 +153,43 @@ fn fold(b: Block, p: Parity, flips: bool, k: u8, room: &mut [u64]) -> Block
 }
 
 // A rotation folds its turn onto the parity that the wire holds.
-pub fn fold_turn(b: Block, i: Local, k: u8, rows: &[u64], room: &mut [u64]) -> Block
+pub fn fold_turn(
+    b: Block,
+    i: Local,
+    k: u8,
+    rows: &[u64],
+    room: &mut [u64],
+    heads: &mut [u32],
+) -> Block
     requires { ⌜ (i .0 < maxColumns) × (maxColumns ≤ length (rowsOf (now rows))) ⌝ }
     requires { ⌜ b .terms < length (termsOf (now room)) ⌝ }
-    ensures { λ r. ⌜ Turns (Fold.addTerm (getD (rowsOf (now (rows .entry))) (i .0) 0) (Fold.signed (bit (val (b .flips)) (i .0)) k) (termsAt b (now (room .entry)))) b r (now (room .entry)) (now (room .exit)) ⌝ }
+    requires { ⌜ (b .terms < 2 ^ 32) × Indexed (now heads) (now room) (b .terms) ⌝ }
+    ensures { λ r. ⌜ Turns (Fold.addTerm (getD (rowsOf (now (rows .entry))) (i .0) 0) (Fold.signed (bit (val (b .flips)) (i .0)) k) (termsAt b (now (room .entry)))) b r (now (room .entry)) (now (room .exit)) (now (heads .exit)) ⌝ }
 {
     let p = rows::get(rows, i.0 as usize);
     let flips = b.flips.has(i.0);
-    fold(b, p, flips, k, room)
+    fold(b, p, flips, k, room, heads)
 }
 
 // cz is three rotations: by 2 on each wire's parity, by 6 on their sum.
-pub fn fold_cz(b: Block, c: Local, t: Local, rows: &[u64], room: &mut [u64]) -> Block
+pub fn fold_cz(
+    b: Block,
+    c: Local,
+    t: Local,
+    rows: &[u64],
+    room: &mut [u64],
+    heads: &mut [u32],
+) -> Block
     requires { ⌜ (c .0 < maxColumns) × ((t .0 < maxColumns) × (maxColumns ≤ length (rowsOf (now rows)))) ⌝ }
     requires { ⌜ b .terms + 3 ≤ length (termsOf (now room)) ⌝ }
-    ensures { λ r. ⌜ Turns (czTerms (getD (rowsOf (now (rows .entry))) (c .0) 0) (bit (val (b .flips)) (c .0)) (getD (rowsOf (now (rows .entry))) (t .0) 0) (bit (val (b .flips)) (t .0)) (termsAt b (now (room .entry)))) b r (now (room .entry)) (now (room .exit)) ⌝ }
+    requires { ⌜ (b .terms + 3 ≤ 2 ^ 32) × Indexed (now heads) (now room) (b .terms) ⌝ }
+    ensures { λ r. ⌜ Turns (czTerms (getD (rowsOf (now (rows .entry))) (c .0) 0) (bit (val (b .flips)) (c .0)) (getD (rowsOf (now (rows .entry))) (t .0) 0) (bit (val (b .flips)) (t .0)) (termsAt b (now (room .entry)))) b r (now (room .entry)) (now (room .exit)) (now (heads .exit)) ⌝ }
 {
     let x = rows::get(rows, c.0 as usize);
     let y = rows::get(rows, t.0 as usize);
     let xs = b.flips.has(c.0);
     let ys = b.flips.has(t.0);
-    let one = fold(b, x, xs, 2, &mut *room);
-    let two = fold(one, y, ys, 2, &mut *room);
-    fold(two, x.xor(y), xs != ys, 6, &mut *room)
+    let one = fold(b, x, xs, 2, &mut *room, &mut *heads);
+    let two = fold(one, y, ys, 2, &mut *room, &mut *heads);
+    fold(two, x.xor(y), xs != ys, 6, &mut *room, &mut *heads)
 }

@@ -1,12 +1,15 @@
 -- A run folded gate by gate: what each turn of the loop needs and leaves.
 use mathlib.Core.Path.{_≡_, refl, sym, ap, _∙_}
-use mathlib.Core.Bool.{Bool, true}
+use mathlib.Core.Bool.{Bool, true, cond}
 use mathlib.Core.List.{List, [], _∷_, _++_, map}
-use Prim.Native.Nat.{ℕ, suc, _+_, _-_, _*_, _≤_, _<_}
+use Prim.Native.Nat.{ℕ, suc, _+_, _-_, _*_, _^_, _≤_, _<_}
 use native.Mathlib.Omega.{arith}
 use lib.IntN.{ℤ}
-use lib.ListN.{length, length-map}
-use Rattle.rules.specs.Limits.{termEntries}
+use lib.ListN.{length, take, length-map}
+use lib.Seq.{length-take-le}
+use lib.Dec.{ltb}
+use borrow.Author.Tests.{ltb-true, ltb-false}
+use Rattle.rules.specs.Limits.{maxGates, termEntries}
 use Rattle.rules.specs.Gate as Paper
 use Rattle.rules.specs.Numbers.{gateAt, gatesFrom, gatesOf}
 use Rattle.rules.specs.Meaning.{Op, op}
@@ -14,6 +17,7 @@ use Rattle.rules.specs.Fold as Fold
 use Rattle.rules.specs.Plan.{Plan}
 use Rattle.rules.specs.Scan.{takes, cut}
 use Rattle.rules.specs.Synth.{blockOf}
+use Rattle.rules.proofs.Bits.{split}
 use Rattle.rules.proofs.Reading.{from-append, from-length}
 use Rattle.rules.proofs.Accepting.{fit-at}
 use Rattle.rules.proofs.Bounds.{fold-snoc, length-terms}
@@ -28,7 +32,7 @@ use Rattle.block.proofs.Codes.{op-read}
 use Rattle.block.proofs.Entering.{empty-holds}
 use Rattle.block.proofs.Folding.{terms-length}
 use Rattle.block.proofs.Using.{holds-same, holds-sound, wired-read}
-use Rattle.scan.specs.Scanning.{gatesIn, run, rest, Checked, Clear, Wide}
+use Rattle.scan.specs.Scanning.{gatesIn, mostHeads, run, rest, Checked, Clear, Wide, Headed}
 
 -- ---- runs of gates
 
@@ -111,6 +115,12 @@ module _ (l : List ℤ) (table names rows room : List ℕ) where
       let e : length (folded l i j .terms) ≡ b .terms = terms-length (h .terms-are) in
       omega (arith, folded-terms l i j)
 
+  -- their places fit a head
+  pub spare-low : (i j : ℕ) (b : State.Block) → Holds (folded l i j) b table names rows room → j < gatesIn l → gatesIn l ≤ maxGates → b .terms + 3 ≤ 2 ^ 32
+  spare-low i j b h k m =
+      let e : length (folded l i j .terms) ≡ b .terms = terms-length (h .terms-are) in
+      omega (arith, folded-terms l i j)
+
   -- the test's answer, of the block itself
   pub asked : (i j : ℕ) (p : Plan) (g : Gate) (b : State.Block) (r : Bool) → Reads (gateAt l j) g → Holds (folded l i j) b table names rows room
       → ((ns : List ℕ) → Rowed b table ns rows → r ≡ takes p (op (gateOf g)) (blockAt b ns rows room)) → takes p (op (gateAt l j)) (folded l i j) ≡ r
@@ -122,3 +132,24 @@ module _ (l : List ℤ) (table names rows room : List ℕ) where
       → Holds (Fold.absorb (op (gateOf g)) (blockAt b names rows room)) r table′ names′ rows′ room′ → Holds (folded l i (j + 1)) r table′ names′ rows′ room′
   next i j g b r table′ names′ rows′ room′ o d h k =
       rw (folded-next l i j o, ← op-read (gateAt l j) g d, ← holds-same h) k
+
+-- ---- the heads of the index, of a step room of n numbers
+
+pub record Front (steps : List ℕ) (r : ℕ) : Type 0 where
+  pub within : r ≤ length steps
+  pub long : length (take r steps) ≡ r
+  pub headed : Headed (take r steps)
+
+pub front : (steps : List ℕ) (r : ℕ) → r ≡ cond (ltb (length steps) mostHeads) (length steps) mostHeads → 0 < length steps → Front steps r
+front steps r e p = split (ltb (length steps) mostHeads) (λ t. small (ltb-true _ _ t) (rw t at e)) (λ t. large (ltb-false _ _ t) (rw t at e))
+  where
+    made : r ≤ length steps → 0 < r → r ≤ mostHeads → Front steps r
+    made a b d =
+        let l : length (take r steps) ≡ r = length-take-le r steps a in
+        record { within = a; long = l; headed = record { some = rw l b; few = rw l (omega arith) } }
+
+    small : length steps < mostHeads → r ≡ length steps → Front steps r
+    small h q = made (omega arith) (omega arith) (omega arith)
+
+    large : mostHeads ≤ length steps → r ≡ mostHeads → Front steps r
+    large h q = made (omega arith) (omega arith) (omega arith)

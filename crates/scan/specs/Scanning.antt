@@ -2,7 +2,7 @@
 use mathlib.Core.Path.{_≡_}
 use mathlib.Core.Bool.{false}
 use mathlib.Core.List.{List, [], _++_}
-use Prim.Native.Nat.{ℕ, _+_, _-_, _*_, _/_, _≤_, _<_}
+use Prim.Native.Nat.{ℕ, _+_, _-_, _*_, _/_, _^_, _≤_, _<_}
 use lib.IntN.{ℤ}
 use lib.ListN.{length, getD, take}
 use Rattle.rules.specs.Limits.{width, maxGates, maxWires, maxColumns, termEntries, stepWidth, stepEntries}
@@ -54,6 +54,15 @@ pub record Wide (names rows : List ℕ) : Type 0 where
 pub record Spared (l : List ℤ) (nodes from spare steps : List ℕ) : Type 0 where
   pub work : Workroom nodes from spare
   pub long : stepWidth * stepEntries (gatesIn l) ≤ length steps
+
+-- heads of an index at most
+abbrev pub mostHeads : ℕ
+mostHeads = 4096
+
+-- heads for an index of a block's terms
+pub record Headed (heads : List ℕ) : Type 0 where
+  pub some : 0 < length heads
+  pub few : length heads ≤ 2 ^ 32
 
 -- ---- a run of gates
 

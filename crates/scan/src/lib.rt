@@ -9,11 +9,15 @@ ghost use mathlib.Core.Path.{_≡_};
 ghost use mathlib.Core.Bool.{cond};
 ghost use mathlib.Core.List.{_++_};
 ghost use Prim.Native.Nat.{suc, _+_, _≤_};
+ghost use lib.Dec.{ltb};
 ghost use Rattle.rules.specs.Limits.{maxGates};
 ghost use Rattle.rules.specs.Numbers.{gateAt, numbers};
 ghost use Rattle.rules.specs.Pass.{writerOf};
 ghost use Rattle.plan.specs.View.{view};
-ghost use Rattle.scan.specs.Scanning.{made, Spared, Foldable, Stops, Closable, Closes, Copyable, Low, Ready, Advances, Scannable, Scans};
+ghost use Rattle.scan.specs.Scanning.{made, mostHeads, Spared, Headed, Foldable, Stops, Closable, Closes, Copyable, Low, Ready, Advances, Scannable, Scans};
+
+// Heads of an index at most: 16 KB of numbers, so that they stay near.
+pub const HEADS: usize = 4096;
 
 // Words of a matrix for the widest block.
 const MATRIX: usize = 2 * MAX_COLUMNS;
@@ -32,7 +36,7 @@ pub struct Tally {
     pub replaced: usize,
 }
 
-// The gates from `start` on, folded onto an empty block as far as it takes them.
+// The gates from `start` on, folded onto an empty block as far as it takes them. `heads` are for the index of its terms, and may hold any numbers.
 pub fn fold_run(
     list: &[i32],
     start: usize,
@@ -41,8 +45,10 @@ pub fn fold_run(
     rows: &mut [u64],
     room: &mut [u64],
     plan: Plan,
+    heads: &mut [u32],
 ) -> Run
     requires { ⌜ Foldable (view plan) (now list) start (now table) (now names) (now rows) (now room) ⌝ }
+    requires { ⌜ Headed (now heads) ⌝ }
     ensures { λ r. ⌜ Stops (view plan) (now (list .entry)) start r (now (table .exit)) (now (names .exit)) (now (rows .exit)) (now (room .exit)) ⌝ }
 {
     let n = list.len() / GATE_WIDTH;
@@ -50,13 +56,28 @@ pub fn fold_run(
     let mut i = start;
     while i < n {
         let g = gate::read(list, i);
-        if !taking::takes(b, g, &*table, &*rows, &*room, plan) {
+        if !taking::takes(b, g, &*table, &*rows, &*room, plan, &*heads) {
             return Run { block: b, end: i };
         }
-        b = absorb::absorb(b, g, &mut *table, &mut *names, &mut *rows, &mut *room);
+        b = absorb::absorb(
+            b,
+            g,
+            &mut *table,
+            &mut *names,
+            &mut *rows,
+            &mut *room,
+            &mut *heads,
+        );
         i += 1;
     }
     Run { block: b, end: i }
+}
+
+// How many heads stand at the front of a step room, which is free while a block is folded.
+fn heads_in(n: usize) -> usize
+    ensures { λ r. ⌜ r ≡ cond (ltb n mostHeads) n mostHeads ⌝ }
+{
+    if n < HEADS { n } else { HEADS }
 }
 
 // The run from gate `start` to `end`, whose block is folded, written behind the m gates of the output.
@@ -157,6 +178,7 @@ fn piece(
     requires { ⌜ Ready (writerOf (view plan)) (view plan) (now list) s (now table) (now names) (now rows) (now nodes) (now held) (now right) (now out) (now room) (now steps) ⌝ }
     ensures { λ r. ⌜ Advances (writerOf (view plan)) (view plan) (now (list .entry)) s r (now (out .exit)) (now (table .exit)) ⌝ }
 {
+    let most = heads_in(steps.len());
     let run = fold_run(
         list,
         s.at,
@@ -165,6 +187,7 @@ fn piece(
         &mut *rows,
         &mut *room,
         plan,
+        &mut steps[..most],
     );
     let end = run.end;
     if end == s.at {

@@ -22,7 +22,7 @@ use Rattle.rules.specs.Plan.{Plan}
 use Rattle.rules.specs.Scan.{hasTerm, roomy, takes}
 use Rattle.rules.proofs.Bits.{split, same}
 use Rattle.rows.specs.Rows.{rowsOf}
-use Rattle.terms.specs.Terms.{termsOf, place}
+use Rattle.terms.specs.Terms.{termsOf, place, Indexed}
 use Rattle.terms.proofs.Places.{place-has}
 use Rattle.gate.specs.Writing.{gateOf}
 use Rattle.gate.specs.declared.Gate.{Gate}
@@ -152,12 +152,13 @@ searched n p q at room m f g =
     ap₂ ltb f (sym (length-take-le n (termsOf room) m)) ∙ place-has p ts ∙ ap (λ (k : ℕ). hasTerm k ts) g
 
 -- what the test asks, of a state that stands for a block
-pub ask-ready : {p : Block} {b : State.Block} {table names rows room : List ℕ} → Holds p b table names rows room
-    → (g : Gate) (cap : ℕ) → Wired g table → cap ≤ maxColumns → Askable b g table rows room cap
-ask-ready h g cap w l = record {
+pub ask-ready : {p : Block} {b : State.Block} {table names rows room heads : List ℕ} → Holds p b table names rows room
+    → (g : Gate) (cap : ℕ) → Wired g table → cap ≤ maxColumns → Indexed heads room (b .terms) → Askable b g table rows room cap heads
+ask-ready h g cap w l x = record {
   wired = w;
   few = h .rows-are .joins .few;
   low = l;
   held = λ q i e. omega (arith, h .rows-are .joins .back q i e .0, h .rows-are .joins .few, h .rows-are .wide);
   terms = h .terms-are .few;
+  indexed = x;
 }

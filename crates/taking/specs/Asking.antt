@@ -8,7 +8,7 @@ use lib.Dec.{eqb, leb}
 use Rattle.rules.specs.Limits.{maxColumns}
 use Rattle.rules.specs.Gate.{codeCnot}
 use Rattle.rows.specs.Rows.{rowsOf}
-use Rattle.terms.specs.Terms.{termsOf}
+use Rattle.terms.specs.Terms.{termsOf, Indexed}
 use Rattle.gate.specs.declared.Gate.{Gate}
 use Rattle.block.specs.Steps.{Wired}
 use Rattle.block.specs.declared.Block.{Block}
@@ -32,9 +32,10 @@ pub record Held (b : Block) (q : ℕ) (table rows : List ℕ) : Type 0 where
   pub fresh : getD table q 0 ≡ 0 → b .wires < maxColumns
 
 -- what the test of a gate asks
-pub record Askable (b : Block) (g : Gate) (table rows room : List ℕ) (cap : ℕ) : Type 0 where
+pub record Askable (b : Block) (g : Gate) (table rows room : List ℕ) (cap : ℕ) (heads : List ℕ) : Type 0 where
   pub wired : Wired g table
   pub few : b .wires ≤ maxColumns
   pub low : cap ≤ maxColumns
   pub held : (q i : ℕ) → getD table q 0 ≡ suc i → i < length (rowsOf rows)
   pub terms : b .terms ≤ length (termsOf room)
+  pub indexed : Indexed heads room (b .terms)

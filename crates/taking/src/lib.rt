@@ -65,8 +65,16 @@ fn parity_of(b: Block, q: Wire, table: &[u32], rows: &[u64]) -> Parity
 
 // Whether a gate can go on the block, whatever the names are that its rows bear. The table of terms is searched only for a rotation, and only if it
 // is full.
-pub fn takes(b: Block, g: Gate, table: &[u32], rows: &[u64], room: &[u64], plan: Plan) -> bool
-    requires { ⌜ Askable b g (now table) (now rows) (now room) (plan .qubits) ⌝ }
+pub fn takes(
+    b: Block,
+    g: Gate,
+    table: &[u32],
+    rows: &[u64],
+    room: &[u64],
+    plan: Plan,
+    heads: &[u32],
+) -> bool
+    requires { ⌜ Askable b g (now table) (now rows) (now room) (plan .qubits) (now heads) ⌝ }
     ensures { λ r. ⌜ ((names : List ℕ) → Rowed b (now (table .entry)) names (now (rows .entry)) → r ≡ Scan.takes (view plan) (op (gateOf g)) (blockAt b names (now (rows .entry)) (now (room .entry)))) ⌝ }
 {
     let code = g.code;
@@ -82,5 +90,5 @@ pub fn takes(b: Block, g: Gate, table: &[u32], rows: &[u64], room: &[u64], plan:
         return true;
     }
     let p = parity_of(b, first, table, rows);
-    terms::find(room, b.terms, p) < b.terms
+    terms::find(room, b.terms, p, heads) < b.terms
 }

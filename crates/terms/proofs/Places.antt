@@ -1,11 +1,11 @@
 -- The place of a parity among the terms: what a search knows on its way, and what a fold does at the place.
 --     place-has              a place below the length says that the table has the parity
 --     place-met, place-new   the fold goes by the place
---     search-next, search-met, search-end    a round of the search that goes on, and its two ends
---     down-none, down-next   the search from the last down
+--     place-at, place-before, place-is, place-end    where the place is
 --     fold-met, fold-new     what one store of the fold leaves in the room
 use mathlib.Core.Path.{_≡_, refl, sym, ap, _∙_}
-use mathlib.Core.Bool.{Bool, true, false, cond}
+use mathlib.Core.Logic.{_≢_}
+use mathlib.Core.Bool.{true, false, cond}
 use mathlib.Core.List.{List, [], _∷_, _++_}
 use Prim.Native.Nat.{ℕ, zero, suc, _+_, _%_, _≤_, _<_, suc-le-suc}
 use native.Mathlib.Nat.{not-suc-le-zero, le-of-suc-le-suc, zero-lt-suc}
@@ -14,7 +14,7 @@ use native.Mathlib.Omega.{arith}
 use lib.ListN.{length, getD, set, take, drop, length-set, length-append, drop-of-length-le}
 use lib.Seq.{length-take-le, drop-cons, drop-length, getD-take, take-set-lt, drop-set-lt, take-suc-set}
 use lib.Dec.{eqb, ltb, leb·suc-suc}
-use borrow.Author.Tests.{lt-ltb, eqb-true}
+use borrow.Author.Tests.{lt-ltb, ltb-true, ltb-false, eqb-true, eqb-false}
 use Rattle.rules.specs.Fold.{Term, addTerm}
 use Rattle.rules.specs.Scan.{hasTerm}
 use Rattle.rules.proofs.Bits.{split}
@@ -49,63 +49,48 @@ place-new p k (t ∷ ts) l =
     (λ e. absurd (not-suc-le-zero (rw e at l)))
     (λ e. rw e (ap (λ (us : List Term). t ∷ us) (place-new p k ts (le-of-suc-le-suc (rw e at l)))))
 
--- ---- the search, among the first n of xs, after i rounds
+-- ---- where the place is
 
-module _ (p n i : ℕ) (xs : List Term) (l : n ≤ length xs) where
-  size : length (take n xs) ≡ n
-  size = length-take-le n xs l
+pub not-lt : {i j : ℕ} → (i < j → ⊥) → j ≤ i
+not-lt {i} {j} h = split (ltb i j) (λ e. absurd (h (ltb-true i j e))) (λ e. ltb-false i j e)
 
-  head : i < n → drop i (take n xs) ≡ getD xs i noTerm ∷ drop (suc i) (take n xs)
-  head h = drop-cons (take n xs) i noTerm (omega (arith, size)) ∙ ap (λ (t : Term). t ∷ drop (suc i) (take n xs)) (getD-take n xs i noTerm h)
+pub place-at : (p : ℕ) (ts : List Term) → place p ts < length ts → getD ts (place p ts) noTerm .parity ≡ p
+unfolding place
+place-at p [] l = absurd (not-suc-le-zero l)
+place-at p (t ∷ ts) l = split (eqb (t .parity) p) (λ e. rw e (eqb-true (t .parity) p e)) (λ e. rw e (place-at p ts (le-of-suc-le-suc (rw e at l))))
 
-  module _ (inv : place p (take n xs) ≡ i + place p (drop i (take n xs))) where
-    pub search-next : i < n → eqb (getD xs i noTerm .parity) p ≡ false → place p (take n xs) ≡ i + 1 + place p (drop (i + 1) (take n xs))
-    unfolding place
-    search-next h e =
-        let q : place p (drop i (take n xs)) ≡ suc (place p (drop (suc i) (take n xs))) = ap (place p) (head h) ∙ rw e in
-        rw (add-one i) (omega arith)
+-- none before the place has the parity
+pub place-before : (p : ℕ) (ts : List Term) (j : ℕ) → j < place p ts → getD ts j noTerm .parity ≢ p
+unfolding place
+place-before p [] j l = absurd (not-suc-le-zero l)
+place-before p (t ∷ ts) zero l = split (eqb (t .parity) p) (λ e. absurd (not-suc-le-zero (rw e at l))) (λ e. eqb-false (t .parity) p e)
+place-before p (t ∷ ts) (suc j) l =
+    split (eqb (t .parity) p) (λ e. absurd (not-suc-le-zero (rw e at l))) (λ e. place-before p ts j (le-of-suc-le-suc (rw e at l)))
 
-    pub search-met : i < n → eqb (getD xs i noTerm .parity) p ≡ true → i ≡ place p (take n xs)
-    unfolding place
-    search-met h e = let q : place p (drop i (take n xs)) ≡ 0 = ap (place p) (head h) ∙ rw e in omega arith
+-- the place is i where i has the parity and none before it does
+pub place-is : (p : ℕ) (ts : List Term) (i : ℕ) → i < length ts → getD ts i noTerm .parity ≡ p → ((j : ℕ) → j < i → getD ts j noTerm .parity ≢ p) → i ≡ place p ts
+place-is p ts i l e none =
+    let a : place p ts ≤ i = not-lt (λ h. place-before p ts i h e) in
+    let b : i ≤ place p ts = not-lt (λ h. none (place p ts) h (place-at p ts (omega arith))) in
+    omega arith
 
-    pub search-end : i ≡ n → n ≡ place p (take n xs)
-    unfolding place
-    search-end e =
-        let q : place p (drop i (take n xs)) ≡ 0 = ap (λ (j : ℕ). place p (drop j (take n xs))) (e ∙ sym size) ∙ ap (place p) (drop-length (take n xs)) in
-        omega arith
-
--- ---- the search from the last down: one more term in front
-module _ (p to : ℕ) (xs : List Term) (l : to ≤ length xs) where
-  pub down-none : to ≡ to + place p (drop to (take to xs))
-  unfolding place
-  down-none =
-      let q : drop to (take to xs) ≡ [] = drop-of-length-le (take to xs) {i = to} (omega (arith, length-take-le to xs l)) in
-      rw q (omega arith)
-
-  pub down-next : (k at : ℕ) (met : Bool) → k < to → met ≡ eqb (getD xs k noTerm .parity) p → at ≡ suc k + place p (drop (suc k) (take to xs))
-      → cond met k at ≡ k + place p (drop k (take to xs))
-  unfolding place
-  down-next k at met h e a =
-      let q : drop k (take to xs) ≡ getD xs k noTerm ∷ drop (suc k) (take to xs) =
-      drop-cons (take to xs) k noTerm (omega (arith, length-take-le to xs l)) ∙ ap (λ (t : Term). t ∷ drop (suc k) (take to xs)) (getD-take to xs k noTerm h) in
-      rw (q, ← e) (by met)
-    where
-      by : (b : Bool) → cond b k at ≡ k + cond b 0 (suc (place p (drop (suc k) (take to xs))))
-      by true = omega arith
-      by false = omega arith
+-- and the number of terms where none has it
+pub place-end : (p : ℕ) (ts : List Term) → ((j : ℕ) → j < length ts → getD ts j noTerm .parity ≢ p) → length ts ≡ place p ts
+place-end p ts none =
+    let a : place p ts ≤ length ts = place-le p ts in
+    let b : length ts ≤ place p ts = not-lt (λ h. none (place p ts) h (place-at p ts h)) in
+    omega arith
 
 -- ---- the fold's one store
 
 module _ (p k n at : ℕ) (xs : List Term) (found : at ≡ place p (take n xs)) where
-  -- x is the term that was read, s the sum that is stored: the byte that was added to held the turn modulo 8
-  pub fold-met : (s : ℕ) (x : Term) → at < n → n ≤ length xs → x ≡ getD xs at noTerm → s ≡ (x .turn % 8 + k) % 8
+  -- s is the turn that is stored
+  pub fold-met : (s : ℕ) → at < n → n ≤ length xs → s ≡ (getD xs at noTerm .turn + k) % 8
       → Begins (addTerm p k (take n xs)) n n xs (set xs at (record { parity = p; turn = s }))
-  fold-met s x h l r e =
+  fold-met s h l e =
       let t : Term = record { parity = p; turn = s } in
       let m : length (take n xs) ≡ n = length-take-le n xs l in
-      let q : (getD (take n xs) at noTerm .turn + k) % 8 ≡ s =
-      ap (λ (u : Term). (u .turn + k) % 8) (getD-take n xs at noTerm h ∙ sym r) ∙ reduced (x .turn) ∙ sym e in
+      let q : (getD (take n xs) at noTerm .turn + k) % 8 ≡ s = ap (λ (u : Term). (u .turn + k) % 8) (getD-take n xs at noTerm h) ∙ sym e in
       let f : addTerm p k (take n xs) ≡ set (take n xs) at t =
       place-met p k (take n xs) (omega arith)
       ∙ ap (λ (j : ℕ). set (take n xs) j (record { parity = p; turn = (getD (take n xs) j noTerm .turn + k) % 8 })) (sym found)
@@ -115,9 +100,6 @@ module _ (p k n at : ℕ) (xs : List Term) (found : at ≡ place p (take n xs)) 
         front = take-set-lt n xs at t h ∙ sym f;
         rest = drop-set-lt n xs at t h;
       }
-    where
-      reduced : (j : ℕ) → (j + k) % 8 ≡ (j % 8 + k) % 8
-      reduced j = omega arith
 
   pub fold-new : (s : ℕ) → n ≤ at → n < length xs → s ≡ k → Begins (addTerm p k (take n xs)) (n + 1) (n + 1) xs (set xs n (record { parity = p; turn = s }))
   fold-new s h l e =

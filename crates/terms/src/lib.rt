@@ -1,16 +1,17 @@
-// The term room: terms side by side in a lent room, three numbers to a term: a parity's low word, its high word, its turn.
+// The term room: terms side by side in a lent room, three numbers to a term: a parity's low word, its high word, and a word that is its turn and 8 times
+// a link. The links and another lent room, the heads, are an index: for each hash a chain of the terms with it.
 use parity::Parity;
 ghost use mathlib.Core.Path.{_≡_};
 ghost use mathlib.Core.Bool.{cond};
-ghost use Prim.Native.Nat.{_<_, _≤_};
+ghost use Prim.Native.Nat.{_/_, _^_, _<_, _≤_};
 ghost use lib.ListN.{length, take, getD};
 ghost use Rattle.rules.specs.Fold.{signed, addTerm};
 ghost use Rattle.rules.specs.Walk.{nonzero, crossTerms};
 ghost use Rattle.rules.specs.Shortcuts.{flipTerms};
 ghost use Rattle.parity.specs.View.{val};
-ghost use Rattle.terms.specs.Terms.{termsOf, termOf, noTerm, exchanged, place, Begins, Stores, Adds, Sides, SplitAt};
+ghost use Rattle.terms.specs.Terms.{termsOf, wordsOf, termOf, noTerm, exchanged, place, slotOf, lastOf, parityAt, Indexed, Begins, Stores, Adds, Sides, SplitAt};
 
-// A term as the code holds it.
+// A term as the code holds it: `turn` is the whole word, and the turn that word modulo 8.
 pub struct Entry {
     pub parity: Parity,
     pub turn: u64,
@@ -32,7 +33,7 @@ pub fn get(room: &[u64], i: usize) -> Entry
 
 pub fn put(room: &mut [u64], i: usize, e: Entry)
     requires { ⌜ i < length (termsOf (now room)) ⌝ }
-    ensures { λ r. ⌜ Stores i (termOf e) (now (room .entry)) (now (room .exit)) ⌝ }
+    ensures { λ r. ⌜ Stores i (termOf e) (e .turn) (now (room .entry)) (now (room .exit)) ⌝ }
 {
     let at = 3 * i;
     room[at] = e.parity.lo;
@@ -50,80 +51,88 @@ pub fn exchange(room: &mut [u64], i: usize, j: usize)
     put(&mut *room, j, x);
 }
 
-// The new place where it was met, else the old one.
-fn met_at(met: bool, new: usize, old: usize) -> usize
-    ensures { λ r. ⌜ r ≡ cond met new old ⌝ }
+// A term's third word.
+fn word(room: &[u64], i: usize) -> u64
+    requires { ⌜ i < length (termsOf (now room)) ⌝ }
+    ensures { λ r. ⌜ r ≡ getD (wordsOf (now (room .entry))) i 0 ⌝ }
 {
-    if met { new } else { old }
+    room[3 * i + 2]
 }
 
-// A search of few terms, from the last down and with no way out: one that leaves at the term it meets is a branch that the machine guesses wrong.
-fn find_few(room: &[u64], count: usize, p: Parity) -> usize
-    requires { ⌜ count ≤ length (termsOf (now room)) ⌝ }
-    ensures { λ r. ⌜ r ≡ place (val p) (take count (termsOf (now (room .entry)))) ⌝ }
+// A parity's hash, below the number of heads. The factors are of 32 bits, so that no product wraps.
+fn slot(p: Parity, n: usize) -> usize
+    requires { ⌜ n ≤ 2 ^ 32 ⌝ }
+    ensures { λ r. ⌜ r ≡ slotOf n (val p) ⌝ }
 {
-    let mut at = count;
-    let mut k = count;
-    while k > 0 {
-        k -= 1;
-        let e = get(room, k);
-        at = met_at(e.parity.same(p), k, at);
+    let low = p.lo % 4294967296 * 2654435769 ^ p.lo / 4294967296 * 2246822519;
+    let high = p.hi % 4294967296 * 3266489917 ^ p.hi / 4294967296 * 668265263;
+    let mix = (low ^ high) % 4294967296;
+    (mix * (n as u64) / 4294967296) as usize
+}
+
+// 1 + the last of the first `count` places with the hash h, or 0. A head counts only if it is one of these places and the term there has the hash, so
+// no head is ever cleared.
+fn last(room: &[u64], count: usize, h: usize, heads: &[u32]) -> usize
+    requires { ⌜ (count ≤ length (termsOf (now room))) × ((h < length (now heads)) × Indexed (now heads) (now room) count) ⌝ }
+    ensures { λ r. ⌜ r ≡ lastOf (λ j. slotOf (length (now (heads .entry))) (parityAt (now (room .entry)) j)) h count ⌝ }
+{
+    let at = heads[h] as usize;
+    if count <= at {
+        return 0;
     }
-    at
+    let e = get(room, at);
+    if slot(e.parity, heads.len()) == h {
+        at + 1
+    } else {
+        0
+    }
 }
 
-// A search of many, which breaks out with the place it met.
-fn find_first(room: &[u64], count: usize, p: Parity) -> usize
-    requires { ⌜ count ≤ length (termsOf (now room)) ⌝ }
+// The place of the first of the first `count` terms whose parity is p, or `count`: down the chain of its hash.
+pub fn find(room: &[u64], count: usize, p: Parity, heads: &[u32]) -> usize
+    requires { ⌜ (count ≤ length (termsOf (now room))) × Indexed (now heads) (now room) count ⌝ }
     ensures { λ r. ⌜ r ≡ place (val p) (take count (termsOf (now (room .entry)))) ⌝ }
 {
-    let mut i = 0;
+    let mut i = last(room, count, slot(p, heads.len()), heads);
     loop {
-        if i == count {
+        if i == 0 {
             break count;
         }
-        let e = get(room, i);
+        let e = get(room, i - 1);
         if e.parity.same(p) {
-            break i;
+            break i - 1;
         }
-        i += 1;
+        i = (word(room, i - 1) / 8) as usize;
     }
 }
 
-// The place of the first of the first `count` terms whose parity is p, or `count`.
-pub fn find(room: &[u64], count: usize, p: Parity) -> usize
-    requires { ⌜ count ≤ length (termsOf (now room)) ⌝ }
-    ensures { λ r. ⌜ r ≡ place (val p) (take count (termsOf (now (room .entry)))) ⌝ }
-{
-    if count <= 8 {
-        find_few(room, count, p)
-    } else {
-        find_first(room, count, p)
-    }
-}
-
-// Folds a turn onto the parity p, negated if the wire's constant is true; how many terms there are then. A term that becomes 0 stays.
-pub fn add_term(room: &mut [u64], count: usize, p: Parity, flips: bool, k: u8) -> usize
-    requires { ⌜ count < length (termsOf (now room)) ⌝ }
-    ensures { λ r. ⌜ Adds (addTerm (val p) (signed flips k) (take count (termsOf (now (room .entry))))) r (now (room .entry)) (now (room .exit)) ⌝ }
+// Folds a turn onto the parity p, negated if the wire's constant is true; how many terms there are then. A term that becomes 0 stays. A new term is
+// the head of its hash, and links to the head before it.
+pub fn add_term(
+    room: &mut [u64],
+    count: usize,
+    p: Parity,
+    flips: bool,
+    k: u8,
+    heads: &mut [u32],
+) -> usize
+    requires { ⌜ (count < length (termsOf (now room))) × ((count < 2 ^ 32) × Indexed (now heads) (now room) count) ⌝ }
+    ensures { λ r. ⌜ Adds (addTerm (val p) (signed flips k) (take count (termsOf (now (room .entry))))) r (now (room .entry)) (now (room .exit)) (now (heads .exit)) ⌝ }
 {
     let added = turn::signed(flips, k);
-    let at = find(&*room, count, p);
+    let at = find(&*room, count, p, &*heads);
     if at < count {
-        let e = get(&*room, at);
-        let sum = turn::fold((e.turn % 8) as u8, added) as u64;
-        put(
-            &mut *room,
-            at,
-            Entry {
-                parity: p,
-                turn: sum,
-            },
-        );
+        let old = word(&*room, at);
+        let sum = turn::fold((old % 8) as u8, added) as u64;
+        let turn = old / 8 * 8 + sum;
+        put(&mut *room, at, Entry { parity: p, turn });
         count
     } else {
-        let turn = added as u64;
+        let h = slot(p, heads.len());
+        let next = last(&*room, count, h, &*heads) as u64;
+        let turn = 8 * next + added as u64;
         put(&mut *room, count, Entry { parity: p, turn });
+        heads[h] = count as u32;
         count + 1
     }
 }

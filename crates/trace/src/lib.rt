@@ -10,6 +10,7 @@ use rules::MAX_WIRES;
 use rules::TERM_WIDTH;
 use saying::Said;
 use saying::Taken;
+use scan::HEADS;
 use spelling::Head;
 use spelling::LIST_GATES;
 ghost use mathlib.Core.Path.{_≡_};
@@ -46,6 +47,7 @@ fn piece_end(numbers: &[i32], at: usize, head: Head) -> usize
     let mut names = [0u32; MAX_COLUMNS];
     let mut rows = [0u64; MATRIX];
     let mut room = [0u64; TERM_WIDTH * (GATE_TERMS * LIST_GATES)];
+    let mut heads = [0u32; HEADS];
     let run = scan::fold_run(
         numbers,
         at,
@@ -54,6 +56,7 @@ fn piece_end(numbers: &[i32], at: usize, head: Head) -> usize
         &mut rows,
         &mut room,
         plan,
+        &mut heads,
     );
     let end = run.end;
     if end == at { at + 1 } else { end }

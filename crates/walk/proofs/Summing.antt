@@ -14,7 +14,7 @@ module _ (ts : List Term) where
   pub turns-first : (0 + turns (drop 0 ts)) % 8 ≡ turns ts % 8
   turns-first = omega arith
 
-  pub turns-next : (sum new i : ℕ) (e : Term) → (sum + turns (drop i ts)) % 8 ≡ turns ts % 8 → i < length ts → e ≡ getD ts i noTerm → new ≡ (sum + e .turn % 8) % 8
+  pub turns-next : (sum new i : ℕ) (e : Term) → (sum + turns (drop i ts)) % 8 ≡ turns ts % 8 → i < length ts → e ≡ getD ts i noTerm → new ≡ (sum + e .turn) % 8
       → (new + turns (drop (i + 1) ts)) % 8 ≡ turns ts % 8
   unfolding turns
   turns-next sum new i e h l r f =
@@ -22,7 +22,7 @@ module _ (ts : List Term) where
       let g : (sum + (e .turn + turns (drop (i + 1) ts))) % 8 ≡ turns ts % 8 = ap (λ (us : List Term). (sum + turns us) % 8) (sym d) ∙ h in
       more sum (e .turn) (turns (drop (i + 1) ts)) new f ∙ g
     where
-      more : (s k u n : ℕ) → n ≡ (s + k % 8) % 8 → (n + u) % 8 ≡ (s + (k + u)) % 8
+      more : (s k u n : ℕ) → n ≡ (s + k) % 8 → (n + u) % 8 ≡ (s + (k + u)) % 8
       more s k u n q = omega arith
 
   pub turns-end : (sum i : ℕ) → (sum + turns (drop i ts)) % 8 ≡ turns ts % 8 → sum < 8 → length ts ≤ i → sum ≡ turns ts % 8

@@ -11,7 +11,7 @@ use Rattle.absorb.proofs.absorb.Tie as tie
 absorb-x-requires : tie.Need-absorb-x-requires
 unfolding entered
 absorb-x-requires c κs =
-    let s = c .before .before .before .before .before .before .before .before in
+    let s = c .before .before .before .before .before .before .before .before .before in
     let o = op-x (s .args .g) (c .before .before .before .if1 .taken) in
     record { rowed = s .pre .sound .rows-are; inside = s .pre .wired .first-in; few = rw o at (s .pre .few) }
 
@@ -26,13 +26,13 @@ same-length-3 c = search needs
 
 returns : tie.Need-returns
 returns c =
-    let s = c .before .before .before .before .before .before .before .before .before .before .before .before .before .before .before in
-    rw (op-x (s .args .g) (c .before .before .before .before .before .before .before .before .before .before .if1 .taken)) (flip-absorbs _ _ _ _ _ _ _ _ _ _ _ (c .before .before .before .before .before .before .absorb-x .ensures) (s .pre .sound .terms-are))
+    let s = c .before .before .before .before .before .before .before .before .before .before .before .before .before .before .before .before in
+    rw (op-x (s .args .g) (c .before .before .before .before .before .before .before .before .before .before .if1 .taken)) (flip-absorbs _ _ _ _ _ _ _ _ _ _ _ (s .pre .indexed) _ (c .before .before .before .before .before .before .absorb-x .ensures) (s .pre .sound .terms-are))
 
 absorb-cnot-requires : tie.Need-absorb-cnot-requires
 unfolding entered
 absorb-cnot-requires c κs =
-    let s = c .before .before .before .before .before .before .before .before .before in
+    let s = c .before .before .before .before .before .before .before .before .before .before in
     let e = c .before .before .before .if2 .taken in
     record {
       rowed = s .pre .sound .rows-are;
@@ -52,21 +52,21 @@ same-length-6 c = search needs
 
 returns-2 : tie.Need-returns-2
 returns-2 c =
-    let s = c .before .before .before .before .before .before .before .before .before .before .before .before .before .before .before .before in
-    rw (op-cnot (s .args .g) (c .before .before .before .before .before .before .before .before .before .before .if2 .taken)) (cnot-absorbs _ _ _ _ _ _ _ _ _ _ _ _ (c .before .before .before .before .before .before .absorb-cnot .ensures) (s .pre .sound .terms-are))
+    let s = c .before .before .before .before .before .before .before .before .before .before .before .before .before .before .before .before .before in
+    rw (op-cnot (s .args .g) (c .before .before .before .before .before .before .before .before .before .before .if2 .taken)) (cnot-absorbs _ _ _ _ _ _ _ _ _ _ _ (s .pre .indexed) _ _ (c .before .before .before .before .before .before .absorb-cnot .ensures) (s .pre .sound .terms-are))
 
 absorb-cz-requires : tie.Need-absorb-cz-requires
 unfolding entered
 absorb-cz-requires c κs =
-    let s = c .before .before .before .before .before .before .before .before .before .before .before in
-    let e = c .before .before .before .before .if3 .taken in (
+    let s = c .before .before .before .before .before .before .before .before .before .before .before .before .before in
+    let e = c .before .before .before .before .before .if3 .taken in (
       record {
         rowed = s .pre .sound .rows-are;
         control = s .pre .wired .first-in;
         target = s .pre .wired .second-in (two-wires (s .args .g .code) (omega arith) (omega arith));
         few = rw (op-cz (s .args .g) e) at (s .pre .few);
       },
-      s .pre .spare,
+      (s .pre .spare, (s .pre .low, s .pre .indexed)),
     )
 
 same-length-7 : tie.Need-same-length-7
@@ -81,30 +81,30 @@ same-length-9 c = search needs
 same-length-10 : tie.Need-same-length-10
 same-length-10 c = search needs
 
+same-length-11 : tie.Need-same-length-11
+same-length-11 c = search needs
+
 returns-3 : tie.Need-returns-3
 returns-3 c =
-    let s = c .before .before .before .before .before .before .before .before .before .before .before .before .before .before .before .before .before .before .before .before in
-    rw (op-cz (s .args .g) (c .before .before .before .before .before .before .before .before .before .before .before .before .before .if3 .taken)) (c .before .before .before .before .before .before .before .before .absorb-cz .ensures)
+    let s = c .before .before .before .before .before .before .before .before .before .before .before .before .before .before .before .before .before .before .before .before .before .before .before .before in
+    rw (op-cz (s .args .g) (c .before .before .before .before .before .before .before .before .before .before .before .before .before .before .before .before .if3 .taken)) (c .before .before .before .before .before .before .before .before .before .before .absorb-cz .ensures)
 
 turn-of-requires : tie.Need-turn-of-requires
 turn-of-requires c κs = search needs
 
 -- what is left are the rotations
-turns : (c : tie.Else3) → (2 ≤ c .before .before .before .before .before .before .before .args .g .code) × (c .before .before .before .before .before .before .before .args .g .code ≤ 7)
-turns c = (omega (arith, c .before .before .before .before .before .before .before .pre .least), omega (arith, c .before .before .before .before .before .before .before .pre .most))
+turns : (c : tie.Else3) → (2 ≤ c .before .before .before .before .before .before .before .before .args .g .code) × (c .before .before .before .before .before .before .before .before .args .g .code ≤ 7)
+turns c = (omega (arith, c .before .before .before .before .before .before .before .before .pre .least), omega (arith, c .before .before .before .before .before .before .before .before .pre .most))
 
 absorb-turn-requires : tie.Need-absorb-turn-requires
 unfolding entered
 absorb-turn-requires c κs =
-    let s = c .before .before .before .before .before .before .before .before .before .before .before .before in
-    let t = turns (c .before .before .before .before .before) in
+    let s = c .before .before .before .before .before .before .before .before .before .before .before .before .before .before in
+    let t = turns (c .before .before .before .before .before .before) in
     let o = op-turn (s .args .g) (t .0) (t .1) in (
       record { rowed = s .pre .sound .rows-are; inside = s .pre .wired .first-in; few = rw o at (s .pre .few) },
-      omega (arith, s .pre .spare),
+      (omega (arith, s .pre .spare), (omega (arith, s .pre .low), s .pre .indexed)),
     )
-
-same-length-11 : tie.Need-same-length-11
-same-length-11 c = search needs
 
 same-length-12 : tie.Need-same-length-12
 same-length-12 c = search needs
@@ -115,11 +115,17 @@ same-length-13 c = search needs
 same-length-14 : tie.Need-same-length-14
 same-length-14 c = search needs
 
+same-length-15 : tie.Need-same-length-15
+same-length-15 c = search needs
+
+same-length-16 : tie.Need-same-length-16
+same-length-16 c = search needs
+
 returns-4 : tie.Need-returns-4
 returns-4 c =
-    let s = c .before .before .before .before .before .before .before .before .before .before .before .before .before .before .before .before .before .before .before .before .before in
-    let t = turns (c .before .before .before .before .before .before .before .before .before .before .before .before .before .before) in
-    rw (op-turn (s .args .g) (t .0) (t .1)) (rw (c .before .before .before .before .before .before .before .before .before .before .before .before .before .turn-of .ensures) at (c .before .before .before .before .before .before .before .before .absorb-turn .ensures))
+    let s = c .before .before .before .before .before .before .before .before .before .before .before .before .before .before .before .before .before .before .before .before .before .before .before .before .before in
+    let t = turns (c .before .before .before .before .before .before .before .before .before .before .before .before .before .before .before .before .before) in
+    rw (op-turn (s .args .g) (t .0) (t .1)) (rw (c .before .before .before .before .before .before .before .before .before .before .before .before .before .before .before .before .turn-of .ensures) at (c .before .before .before .before .before .before .before .before .before .before .absorb-turn .ensures))
 
 pub absorb-spec : {M : Type 1} → statement M
 absorb-spec =
@@ -140,11 +146,13 @@ absorb-spec =
     same-length-8
     same-length-9
     same-length-10
+    same-length-11
     returns-3
     turn-of-requires
     absorb-turn-requires
-    same-length-11
     same-length-12
     same-length-13
     same-length-14
+    same-length-15
+    same-length-16
     returns-4)

@@ -12,8 +12,11 @@ add-term-requires c κs = search needs
 same-length : tie.Need-same-length
 same-length c = search needs
 
+same-length-2 : tie.Need-same-length-2
+same-length-2 c = search needs
+
 returns : tie.Need-returns
-returns c = folds-one _ _ _ _ _ _ (omega arith) (c .before .before .add-term .ensures) refl refl
+returns c = folds-one _ _ _ _ _ _ _ (omega arith) (c .before .before .before .before .add-term .ensures) refl refl
 
 pub fold-spec : {M : Type 1} → statement M
-fold-spec = tie.close (tie.spec add-term-requires same-length returns)
+fold-spec = tie.close (tie.spec add-term-requires same-length same-length-2 returns)

@@ -1,36 +1,59 @@
 -- `scan::piece` meets its contract: the run from the next gate on is empty, and the gate is copied, or it is a block.
-use mathlib.Core.Path.{_∙_}
+use mathlib.Core.Path.{_≡_, sym, subst, _∙_}
+use mathlib.Core.List.{_++_}
+use Prim.Native.Nat.{ℕ, _*_, _≤_}
 use native.Mathlib.Omega.{arith}
 use borrow.Author.Needs.{needs}
+use lib.ListN.{length, drop}
+use lib.Seq.{length-front}
+use Rattle.rules.specs.Limits.{stepWidth, stepEntries}
 use Rattle.rules.specs.Pass.{writerOf}
 use Rattle.plan.specs.View.{view}
+use Rattle.scan.specs.Scanning.{gatesIn}
+use Rattle.scan.proofs.Folding.{Front, front}
 use Rattle.scan.proofs.Pieces.{low, chosen-run, copied-stands, closed-stands}
 use Rattle.scan.proofs.piece.Statement.{statement}
 use Rattle.scan.proofs.piece.Tie as tie
 
 -- the start, from where the run is folded; the folded run, from the three calls behind it
-abbrev begin : tie.After-fold-run-arg4 → tie.Start
-begin c = c .before .before .before .before .before .before .before .before .before .before .before .before
+abbrev begin : tie.After-fold-run-arg5 → tie.Start
+begin c = c .before .before .before .before .before .before .before .before .before .before .before .before .before .before
 
 abbrev to-copy : tie.After-copy-gate-arg → tie.After-fold-run
-to-copy c = c .before .before .before .before .before .before .before .before .before .before .before
+to-copy c = c .before .before .before .before .before .before .before .before .before .before .before .before .before
 
 abbrev to-close : tie.After-close-arg9 → tie.After-fold-run
-to-close c = c .before .before .before .before .before .before .before .before .before .before .before .before .before .before .before .before .before .before .before
+to-close c = c .before .before .before .before .before .before .before .before .before .before .before .before .before .before .before .before .before .before .before .before .before
 
 -- the gate copied, and the block closed, from where the counts are told
 abbrev copied : tie.After-out → tie.After-copy-gate
 copied c = c .before
 
-abbrev closed : tie.After-slice-known18 → tie.After-close
+abbrev closed : tie.After-slice-known19 → tie.After-close
 closed c = c .before .before .before .before .before .before .before .before .before .before .before .before .before
 
 -- the counts, from the end
 abbrev counted : tie.After-closed → tie.After-closed
 counted c = c
 
+-- the heads are a part of the steps, which are as long when they are back
+heads : (c : tie.After-heads-in) → Front (c .before .before .before .before .before .before .before .before .before .args .steps .now) (c .heads-in .result)
+heads c = front _ _ (c .heads-in .ensures) (omega (arith, c .before .before .before .before .before .before .before .before .before .pre .spared .long))
+
+back : (c : tie.After-fold-run) → length (c .fold-run .last .1 .1 .1 .1 .1 .1 .1 .0 ++ drop (c .before .before .before .before .before .before .heads-in .result) (c .before .before .before .before .before .before .before .before .before .before .before .before .before .before .before .args .steps .now)) ≡ length (c .before .before .before .before .before .before .before .before .before .before .before .before .before .before .before .args .steps .now)
+back c = length-front (c .before .before .before .before .before .before .before .before .before .before .before .before .before .before .before .args .steps .now) (c .fold-run .last .1 .1 .1 .1 .1 .1 .1 .0) (c .before .before .before .before .before .before .heads-in .result) (c .fold-run .kept .1 .1 .1 .1 .1 .1 .1 .0)
+
+heads-in-requires : tie.Need-heads-in-requires
+heads-in-requires c κs = tt
+
+slice-relend-prefix-fold-run : tie.Need-slice-relend-prefix-fold-run
+slice-relend-prefix-fold-run c = heads (c .before .before .before .before) .within
+
+slice-aggregate-fold-run : tie.Need-slice-aggregate-fold-run
+slice-aggregate-fold-run c = sym (heads (c .before .before .before .before .before) .long)
+
 fold-run-requires : tie.Need-fold-run-requires
-fold-run-requires c κs = begin c .pre .foldable
+fold-run-requires c κs = (begin c .pre .foldable, heads (c .before .before .before .before .before) .headed)
 
 copy-gate-requires : tie.Need-copy-gate-requires
 copy-gate-requires c κs =
@@ -56,6 +79,9 @@ same-length-4 c = search needs
 same-length-5 : tie.Need-same-length-5
 same-length-5 c = search needs
 
+same-length-6 : tie.Need-same-length-6
+same-length-6 c = search needs
+
 returns : tie.Need-returns
 returns c =
     let g = copied (c .before) in
@@ -77,7 +103,7 @@ close-requires c κs =
         fits = p .fits;
         holds = f .ensures .holds;
       },
-      p .spared,
+      record { work = p .spared .work; long = subst (λ (n : ℕ). stepWidth * stepEntries (gatesIn (begin (to-close c .before) .args .list .now)) ≤ n) (sym (back (to-close c))) (p .spared .long) },
     )
 
 closed-requires : tie.Need-closed-requires
@@ -90,17 +116,14 @@ closed-requires c κs =
     (low (p .foldable .checked) (p .stands), omega (arith, d .close .ensures .gates, chosen-run (writerOf (view (a .plan))) (view (a .plan)) (a .list .now) (a .s .at) (f .fold-run .result .end), f .fold-run .ensures .inside, p .foldable .checked .few))
 
 -- the rooms that both calls had: as long as they were
-same-length-6 : tie.Need-same-length-6
-same-length-6 c = let d = closed (counted c .before) in d .close .kept .1 .1 .1 .1 .1 .1 .0 ∙ to-close (d .before) .fold-run .kept .1 .1 .0
-
 same-length-7 : tie.Need-same-length-7
-same-length-7 c = to-close (closed (counted c .before) .before) .fold-run .kept .1 .1 .1 .0
+same-length-7 c = let d = closed (counted c .before) in d .close .kept .1 .1 .1 .1 .1 .1 .0 ∙ to-close (d .before) .fold-run .kept .1 .1 .0
 
 same-length-8 : tie.Need-same-length-8
-same-length-8 c = to-close (closed (counted c .before) .before) .fold-run .kept .1 .1 .1 .1 .0
+same-length-8 c = to-close (closed (counted c .before) .before) .fold-run .kept .1 .1 .1 .0
 
 same-length-9 : tie.Need-same-length-9
-same-length-9 c = search needs
+same-length-9 c = to-close (closed (counted c .before) .before) .fold-run .kept .1 .1 .1 .1 .0
 
 same-length-10 : tie.Need-same-length-10
 same-length-10 c = search needs
@@ -115,7 +138,10 @@ same-length-13 : tie.Need-same-length-13
 same-length-13 c = search needs
 
 same-length-14 : tie.Need-same-length-14
-same-length-14 c = search needs
+same-length-14 c = let d = closed (counted c .before) in d .close .kept .1 .1 .1 .1 .1 .1 .1 .1 .1 .0 ∙ to-close (d .before) .fold-run .kept .1 .1 .1 .1 .1 .0
+
+same-length-15 : tie.Need-same-length-15
+same-length-15 c = let d = closed (counted c .before) in d .close .kept .1 .1 .1 .1 .1 .1 .1 .1 .1 .1 .1 .1 .1 .0 ∙ back (to-close (d .before))
 
 returns-2 : tie.Need-returns-2
 returns-2 c =
@@ -131,6 +157,9 @@ pub piece-spec : {M : Type 1} → statement M
 piece-spec =
     tie.close
     (tie.spec
+    heads-in-requires
+    slice-relend-prefix-fold-run
+    slice-aggregate-fold-run
     fold-run-requires
     copy-gate-requires
     copied-requires
@@ -139,10 +168,10 @@ piece-spec =
     same-length-3
     same-length-4
     same-length-5
+    same-length-6
     returns
     close-requires
     closed-requires
-    same-length-6
     same-length-7
     same-length-8
     same-length-9
@@ -151,4 +180,5 @@ piece-spec =
     same-length-12
     same-length-13
     same-length-14
+    same-length-15
     returns-2)

@@ -30,20 +30,20 @@ last-in g table w h =
 
 -- the start, and the answer of `fits`, from the moments behind it
 abbrev begin : tie.After-fits2 → tie.Start
-begin c = c .before .before .before .before .before .before
+begin c = c .before .before .before .before .before .before .before
 
 abbrev within : tie.After-struct-known2 → tie.Else2
 within c = c .before .before
 
 returns : tie.Need-returns
-returns c = λ names h. rw (op-other (c .before .before .before .before .args .g) (c .if1 .taken)) (takes-other h _ (view (c .before .before .before .before .args .plan)))
+returns c = λ names h. rw (op-other (c .before .before .before .before .before .args .g) (c .if1 .taken)) (takes-other h _ (view (c .before .before .before .before .before .args .plan)))
 
 last-wire-requires : tie.Need-last-wire-requires
 last-wire-requires c κs = tt
 
 fits-requires : tie.Need-fits-requires
 fits-requires c κs =
-    let s = c .before .before .before .before .before in
+    let s = c .before .before .before .before .before .before in
     let k = op-some (s .args .g .code) (c .before .if1 .left) in
     (s .pre .few, (s .pre .wired .first-in, rw (c .last-wire .ensures) (last-in (s .args .g) _ (s .pre .wired) (k .1))))
 

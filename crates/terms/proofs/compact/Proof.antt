@@ -3,6 +3,7 @@
 use mathlib.Core.Path.{_≡_, refl, _∙_}
 use mathlib.Core.Bool.{not, cond}
 use Prim.Native.Nat.{_-_, _%_, _≤_}
+use native.Mathlib.Nat.{mod-mod}
 use native.Mathlib.Omega.{arith}
 use lib.ListN.{length}
 use lib.Dec.{eqb}
@@ -47,7 +48,8 @@ loop-less c = omega arith
 loop-again : tie.Need-loop-again Inv-loop μ-loop
 loop-again c =
     let l = c .before .before .before .before .before .before .before .before .before .loop in
-    let n : c .one .result ≡ cond (not (eqb (c .before .before .before .before .before .before .get .result .turn % 8) 0)) 1 0 = c .one .ensures .0 in (
+    let w = c .before .before .before .before .before .before .get .result .turn in
+    let n : c .one .result ≡ cond (not (eqb (w % 8 % 8) 0)) 1 0 = rw (mod-mod w 8) (c .one .ensures .0) in (
       omega arith,
       c .before .before .before .before .exchange .kept .0 ∙ l .inv .1,
       rw (n, c .before .before .before .before .exchange .ensures) (sieve-spent _ _ _ _ _ (l .inv .2) (omega arith) (c .before .before .before .before .before .before .get .ensures)),

@@ -49,29 +49,32 @@ slice-aggregate-fold-run-3 c = search needs
 slice-aggregate-fold-run-4 : tie.Need-slice-aggregate-fold-run-4
 slice-aggregate-fold-run-4 c = search needs
 
+slice-aggregate-fold-run-5 : tie.Need-slice-aggregate-fold-run-5
+slice-aggregate-fold-run-5 c = search needs
+
 fold-run-requires : tie.Need-fold-run-requires
 fold-run-requires c κs =
-    let s = (c .before .before .before .before .before .before .before .before) in
-    let o = (c .before .before .before .before .before) .of-caps in
+    let s = (c .before .before .before .before .before .before .before .before .before) in
+    let o = (c .before .before .before .before .before .before) .of-caps in
     let capped : view (o .result) .qubits ≤ maxColumns = omega (arith, ap (λ (p : Plan). p .qubits) (o .ensures), clamped (s .args .head .qubits) (s .args .head .terms)) in
-    foldable (headOf (s .args .head)) (s .args .numbers .now) (s .pre .0) (view (o .result)) capped (s .args .at) _ _ _ (omega (arith, s .pre .1)) (length-replicate {A = ℕ} 128 0) (length-replicate {A = ℕ} 256 0) (length-replicate {A = ℕ} (termWidth * termEntries listGates) 0)
+    (foldable (headOf (s .args .head)) (s .args .numbers .now) (s .pre .0) (view (o .result)) capped (s .args .at) _ _ _ (omega (arith, s .pre .1)) (length-replicate {A = ℕ} 128 0) (length-replicate {A = ℕ} 256 0) (length-replicate {A = ℕ} (termWidth * termEntries listGates) 0), record { some = rw (length-replicate {A = ℕ} 4096 0) (omega arith); few = rw (length-replicate {A = ℕ} 4096 0) (omega arith) })
 
 add-result : tie.Need-add-result
 add-result c = search needs
 
 returns : tie.Need-returns
 returns c =
-    let s = (c .before .before .before .before .before .before .before .before .before .before .before .before .before .before) in
+    let s = (c .before .before .before .before .before .before .before .before .before .before .before .before .before .before .before .before) in
     let l = s .args .numbers .now in
-    subst (λ (p : Plan). Cuts p l (s .args .at) (s .args .at + 1)) ((c .before .before .before .before .before .before .before .before .before .before .before) .of-caps .ensures)
-    (stop-lone _ l (s .args .at) ((c .before .before .before .before .before) .fold-run .result) _ _ _ _ ((c .before .before .before .before .before) .fold-run .ensures) (s .pre .1) (c .if1 .taken))
+    subst (λ (p : Plan). Cuts p l (s .args .at) (s .args .at + 1)) ((c .before .before .before .before .before .before .before .before .before .before .before .before .before) .of-caps .ensures)
+    (stop-lone _ l (s .args .at) ((c .before .before .before .before .before .before) .fold-run .result) _ _ _ _ ((c .before .before .before .before .before .before) .fold-run .ensures) (s .pre .1) (c .if1 .taken))
 
 returns-2 : tie.Need-returns-2
 returns-2 c =
-    let s = (c .before .before .before .before .before .before .before .before .before .before .before .before .before .before) in
+    let s = (c .before .before .before .before .before .before .before .before .before .before .before .before .before .before .before .before) in
     let l = s .args .numbers .now in
-    subst (λ (p : Plan). Cuts p l (s .args .at) ((c .before .before .before .before .before) .fold-run .result .end)) ((c .before .before .before .before .before .before .before .before .before .before .before) .of-caps .ensures)
-    (stop-block _ l (s .args .at) ((c .before .before .before .before .before) .fold-run .result) _ _ _ _ ((c .before .before .before .before .before) .fold-run .ensures) (s .pre .1) (c .if1 .left))
+    subst (λ (p : Plan). Cuts p l (s .args .at) ((c .before .before .before .before .before .before) .fold-run .result .end)) ((c .before .before .before .before .before .before .before .before .before .before .before .before .before) .of-caps .ensures)
+    (stop-block _ l (s .args .at) ((c .before .before .before .before .before .before) .fold-run .result) _ _ _ _ ((c .before .before .before .before .before .before) .fold-run .ensures) (s .pre .1) (c .if1 .left))
 
 pub piece-end-spec : {M : Type 1} → statement M
 piece-end-spec =
@@ -86,6 +89,7 @@ piece-end-spec =
     slice-aggregate-fold-run-2
     slice-aggregate-fold-run-3
     slice-aggregate-fold-run-4
+    slice-aggregate-fold-run-5
     fold-run-requires
     add-result
     returns
