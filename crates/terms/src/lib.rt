@@ -2,9 +2,10 @@
 // a link. The links and another lent room, the heads, are an index: for each hash a chain of the terms with it.
 use parity::Parity;
 ghost use mathlib.Core.Path.{_≡_};
-ghost use mathlib.Core.Bool.{cond};
+ghost use mathlib.Core.Bool.{_&&_, cond};
 ghost use Prim.Native.Nat.{_/_, _^_, _<_, _≤_};
 ghost use lib.ListN.{length, take, getD};
+ghost use lib.Dec.{eqb, ltb};
 ghost use Rattle.rules.specs.Fold.{signed, addTerm};
 ghost use Rattle.rules.specs.Walk.{nonzero, crossTerms};
 ghost use Rattle.rules.specs.Shortcuts.{flipTerms};
@@ -88,12 +89,29 @@ fn last(room: &[u64], count: usize, h: usize, heads: &[u32]) -> usize
     }
 }
 
-// The place of the first of the first `count` terms whose parity is p, or `count`: down the chain of its hash.
+// Whether p is the parity of one of the first `count` terms, the one at i.
+fn hit(room: &[u64], count: usize, p: Parity, i: usize) -> bool
+    requires { ⌜ count ≤ length (termsOf (now room)) ⌝ }
+    ensures { λ r. ⌜ r ≡ (ltb i count && eqb (parityAt (now (room .entry)) i) (val p)) ⌝ }
+{
+    if count <= i {
+        return false;
+    }
+    let e = get(room, i);
+    e.parity.same(p)
+}
+
+// The place of the first of the first `count` terms whose parity is p, or `count`: the head of its hash, which it mostly is, or down the chain.
 pub fn find(room: &[u64], count: usize, p: Parity, heads: &[u32]) -> usize
     requires { ⌜ (count ≤ length (termsOf (now room))) × Indexed (now heads) (now room) count ⌝ }
     ensures { λ r. ⌜ r ≡ place (val p) (take count (termsOf (now (room .entry)))) ⌝ }
 {
-    let mut i = last(room, count, slot(p, heads.len()), heads);
+    let h = slot(p, heads.len());
+    let head = heads[h] as usize;
+    if hit(room, count, p, head) {
+        return head;
+    }
+    let mut i = last(room, count, h, heads);
     loop {
         if i == 0 {
             break count;

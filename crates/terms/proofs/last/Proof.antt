@@ -28,7 +28,7 @@ hash : (c : tie.After-slot) → c .slot .result ≡ slotOf (length (c .before .b
 hash c = c .slot .ensures ∙ ap (λ (t : Term). slotOf (length (c .before .before .before .before .before .before .args .heads .now)) (t .parity)) (c .before .get .ensures)
 
 returns : tie.Need-returns
-returns c = head-past _ (head (c .before .before .before .before)) _ _ (c .before .before .before .before .pre .1 .1 .linked .heads) (c .if1 .taken)
+returns c = head-past _ (head (c .before .before .before .before)) (c .before .before .before .before .args .count) (c .before .before .before .before .args .h) (c .before .before .before .before .pre .1 .1 .linked .heads) (omega arith)
 
 get-requires : tie.Need-get-requires
 get-requires c κs = search needs
