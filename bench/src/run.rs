@@ -209,23 +209,26 @@ fn compare(name: &str, lists: &[List], wires: usize, qubits: usize, terms: usize
         let theirs: List = cnot_min::cnot_min_with(circuit, qubits, terms).gates.iter().flat_map(gates::numbers).collect();
         assert_eq!(fields(&room.out[..WIDTH * room.counts[1] as usize]), theirs, "{name}: the outputs differ");
     }
-    let (mut ours, mut theirs) = (Vec::new(), Vec::new());
+    let (mut ours, mut theirs, mut ratios) = (Vec::new(), Vec::new(), Vec::new());
     let began = Instant::now();
     let mut rounds = 0;
     while rounds < 5 || (began.elapsed().as_secs_f64() < 1.0 && rounds < 200) {
         for ((list, circuit), room) in lists.iter().zip(&circuits).zip(&mut rooms) {
             let t = Instant::now();
             black_box(room.run(black_box(list), wires, qubits, terms));
-            ours.push(t.elapsed().as_secs_f64() * 1e6);
+            let port = t.elapsed().as_secs_f64() * 1e6;
             let t = Instant::now();
             black_box(cnot_min::cnot_min_with(black_box(circuit), qubits, terms));
-            theirs.push(t.elapsed().as_secs_f64() * 1e6);
+            let original = t.elapsed().as_secs_f64() * 1e6;
+            ours.push(port);
+            theirs.push(original);
+            ratios.push(port / original);
         }
         rounds += 1;
     }
-    let (ours, theirs) = (median(ours), median(theirs));
+    let (ours, theirs, ratio) = (median(ours), median(theirs), median(ratios));
     let g = lists[0].len() / WIDTH;
-    println!("| {name} | {g} | {ours:.1} | {theirs:.1} | {:.2} | {:.1} |", ours / theirs, ours * 1000.0 / g as f64);
+    println!("| {name} | {g} | {ours:.1} | {theirs:.1} | {ratio:.3} | {:.1} |", ours * 1000.0 / g as f64);
 }
 
 /// A call of the port, for its stack.
@@ -235,45 +238,62 @@ fn call(list: List, wires: usize) -> Box<dyn Fn() + Send> {
     })
 }
 
+/// One shape of lists, by seed and gates.
+struct Shape {
+    name: String,
+    wires: usize,
+    /// Whether the term cap is so large that no list reaches it; else it is 512.
+    open: bool,
+    make: Box<dyn Fn(u64, usize) -> List>,
+}
+
+fn shape(name: &str, wires: usize, make: impl Fn(u64, usize) -> List + 'static) -> Shape {
+    Shape { name: format!("{name}, {wires} wires"), wires, open: false, make: Box::new(make) }
+}
+
+/// Without the h that end a block.
+fn unbroken(seed: u64, gates: usize, wires: usize, rotations: usize) -> List {
+    dense(seed, gates + gates / 100 + 100, wires, rotations).chunks(WIDTH).filter(|gate| gate[0] != 10).flatten().take(WIDTH * gates).copied().collect()
+}
+
+fn shapes() -> Vec<Shape> {
+    let mut all = Vec::new();
+    for wires in [3, 8, 16, 32, 128] {
+        for rotations in [5, 30, 60] {
+            all.push(shape(&format!("dense, {rotations} % rotations"), wires, move |s, g| dense(s, g, wires, rotations)));
+        }
+    }
+    for wires in [1024, 4096] {
+        all.push(shape("dense, 60 % rotations", wires, move |s, g| dense(s, g, wires, 60)));
+    }
+    all.push(shape("t wall", 128, |_, g| t_wall(g, 128)));
+    all.push(shape("cz wall", 128, |_, g| cz_wall(g, 128)));
+    all.push(shape("cz only, one block", 128, |s, g| cz_only(s, g, 128)));
+    all.push(shape("Fourier", 90, |_, g| fourier(g, 90)));
+    for wires in [12, 24, 60] {
+        all.push(shape("gadgets", wires, move |s, g| chemistry(s, g, wires)));
+    }
+    for wires in [16, 128] {
+        all.push(Shape { open: true, ..shape("one block, 30 % rotations, the largest term cap", wires, move |s, g| unbroken(s, g, wires, 30)) });
+    }
+    all
+}
+
 fn main() {
     println!("| list | gates | port | original | ratio | port, ns a gate |");
     println!("|---|---|---|---|---|---|");
-    let several = |f: &dyn Fn(u64) -> List| -> Vec<List> { (1..5).map(|s| f(s * 7919)).collect() };
-    for wires in [128, 16, 3] {
-        for rotations in [5, 30, 60] {
-            compare(&format!("dense, {wires} wires, {rotations} % rotations"), &several(&|s| dense(s, 8192, wires, rotations)), wires, 128, 512);
-        }
-    }
-    compare("dense, 1,024 wires, 60 % rotations", &several(&|s| dense(s, 8192, 1024, 60)), 1024, 128, 512);
-    compare("t wall, 128 wires", &[t_wall(8192, 128)], 128, 128, 512);
-    compare("cz wall, 128 wires", &[cz_wall(8192, 128)], 128, 128, 512);
-    compare("cz only, one block, 128 wires", &several(&|s| cz_only(s, 8192, 128)), 128, 128, 512);
-    compare("Fourier, 90 wires", &[fourier(8192, 90)], 90, 128, 512);
-    compare("adder, 200 bits", &[adder(200)], 600, 128, 512);
-    for gates in [512, 1024, 2048, 4096] {
-        compare(&format!("growth: 16 wires, 30 %, {gates} gates"), &several(&|s| dense(s, gates, 16, 30)), 16, 128, 512);
-    }
-    for wires in [8, 16, 32, 64, 128] {
-        compare(&format!("growth: {wires} wires, 30 %, 4,096 gates"), &several(&|s| dense(s, 4096, wires, 30)), wires, 128, 512);
-    }
-    for (wires, rotations) in [(16, 30), (128, 30), (4096, 60)] {
+    for shape in shapes() {
         for gates in LENGTHS {
-            compare(&format!("growth: {wires} wires, {rotations} %, {gates} gates"), &several(&|s| dense(s, gates, wires, rotations)), wires, 128, 512);
+            // four lists where they are quick
+            let lists: Vec<List> = (1..if gates > 8192 { 2 } else { 5 }).map(|s| (shape.make)(s * 7919, gates)).collect();
+            compare(&shape.name, &lists, shape.wires, 128, if shape.open { 3 * gates } else { 512 });
         }
     }
-    for gates in LENGTHS {
-        compare(&format!("growth: t wall, 128 wires, {gates} gates"), &[t_wall(gates, 128)], 128, 128, 512);
+    let several = |f: &dyn Fn(u64) -> List| -> Vec<List> { (1..5).map(|s| f(s * 7919)).collect() };
+    for gates in [512, 1024, 2048, 4096] {
+        compare("dense, 30 % rotations, 16 wires", &several(&|s| dense(s, gates, 16, 30)), 16, 128, 512);
     }
-    for gates in LENGTHS {
-        compare(&format!("growth: cz wall, 128 wires, {gates} gates"), &[cz_wall(gates, 128)], 128, 128, 512);
-    }
-    for gates in LENGTHS {
-        compare(&format!("growth: cz only, one block, 128 wires, {gates} gates"), &[cz_only(7919, gates, 128)], 128, 128, 512);
-    }
-    // no list of so many gates has more terms than the cap
-    for gates in LENGTHS {
-        compare(&format!("growth: term cap {}, 128 wires, 30 %, {gates} gates", 3 * gates), &several(&|s| dense(s, gates, 128, 30)), 128, 128, 3 * gates);
-    }
+    compare("adder, 200 bits", &[adder(200)], 600, 128, 512);
     compare("chemistry, 32 wires", &several(&|s| chemistry(s, 40000, 32)), 32, 128, 512);
     let calls = vec![
         call(dense(1, 65536, 128, 30), 128), call(t_wall(65536, 128), 128), call(cz_only(1, 65536, 128), 128), call(dense(1, 8192, 1024, 60), 1024), call(dense(1, 65536, 4096, 60), 4096),
