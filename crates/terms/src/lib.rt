@@ -7,7 +7,7 @@ ghost use Prim.Native.Nat.{_/_, _^_, _<_, _≤_};
 ghost use lib.ListN.{length, take, getD};
 ghost use lib.Dec.{eqb, ltb};
 ghost use Rattle.rules.specs.Fold.{signed, addTerm};
-ghost use Rattle.rules.specs.Walk.{nonzero, crossTerms};
+ghost use Rattle.rules.specs.Walk.{nonzero};
 ghost use Rattle.rules.specs.Shortcuts.{flipTerms};
 ghost use Rattle.parity.specs.View.{val};
 ghost use Rattle.terms.specs.Terms.{termsOf, wordsOf, termOf, noTerm, exchanged, place, slotOf, lastOf, parityAt, Indexed, Begins, Stores, Adds, Sides, SplitAt};
@@ -220,12 +220,4 @@ pub fn flip_by(room: &mut [u64], count: usize, mask: Parity, t: u32)
             },
         );
     }
-}
-
-// A CNOT from p to t passes the first `count` terms: a parity with bit t has bit p flipped.
-pub fn flip(room: &mut [u64], count: usize, p: u32, t: u32)
-    requires { ⌜ (p < 128) × ((t < 128) × (count ≤ length (termsOf (now room)))) ⌝ }
-    ensures { λ r. ⌜ Begins (crossTerms p t (take count (termsOf (now (room .entry))))) count count (termsOf (now (room .entry))) (termsOf (now (room .exit))) ⌝ }
-{
-    flip_by(room, count, Parity::single(p), t);
 }
