@@ -66,19 +66,19 @@ uint64_t dilkovan_cnot_min(const int32_t *list, size_t list_length, size_t wires
  *
  * Answers 0 when the list was taken, and 1 when it was refused. In either case `out` begins with what is printed, *length bytes of it with
  * no 0 behind them: the head, the new gates and the counts; or one line, "refused NUMBER PLACE FIELD". The rest of `out` is not written, nor is
- * the text. Its own tables are on the stack: 145,999 bytes was the deepest measured. */
+ * the text. Its own tables are on the stack: 146,439 bytes was the deepest measured. */
 uint64_t dilkovan_list(const uint8_t *text, size_t text_length, uint8_t out[DILKOVAN_LIST_BYTES], size_t *length);
 
 /* A laboratory's text, OpenQASM 2.0, as a list's text with the caps 128 and 512 and no counts; a list's text as a laboratory's; and a laboratory's text
  * with its circuit shortened at those caps. `out`, *length and the answer are those of dilkovan_list. The deepest stack measured:
- * 22,215 bytes for import and export, 145,967 for qasm. */
+ * 22,215 bytes for import and export, 146,407 for qasm. */
 uint64_t dilkovan_import(const uint8_t *text, size_t text_length, uint8_t out[DILKOVAN_LIST_BYTES], size_t *length);
 uint64_t dilkovan_export(const uint8_t *text, size_t text_length, uint8_t out[DILKOVAN_LIST_BYTES], size_t *length);
 uint64_t dilkovan_qasm(const uint8_t *text, size_t text_length, uint8_t out[DILKOVAN_LIST_BYTES], size_t *length);
 
 /* Where each gate of the circuit that dilkovan_qasm prints comes from, for people: a line for each, its statement and " // line N", the line of the
  * text that it was copied from, or " // lines A to B", those of the first and the last gate of the block that was written again. `out` is longer; the
- * refusals are those of dilkovan_qasm. The deepest stack measured: 146,527 bytes. */
+ * refusals are those of dilkovan_qasm. The deepest stack measured: 157,207 bytes. */
 #define DILKOVAN_TRACE_BYTES (85 * 896)
 uint64_t dilkovan_trace(const uint8_t *text, size_t text_length, uint8_t out[DILKOVAN_TRACE_BYTES], size_t *length);
 
