@@ -1,0 +1,2 @@
+-- What the sums of one wire stand for.
+pub mod Lanes
