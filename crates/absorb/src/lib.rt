@@ -97,7 +97,7 @@ fn named(code: u32) -> u8
 }
 
 // The turn of a rotation: rz has its own.
-fn turn_of(code: u32, k: u8) -> u8
+pub fn turn_of(code: u32, k: u8) -> u8
     ensures { λ r. ⌜ r ≡ turnOf code k ⌝ }
 {
     let fixed = named(code);
