@@ -1,0 +1,5 @@
+pub mod Acting
+pub mod Running
+pub mod Telling
+pub mod Saying
+pub mod Rooms

@@ -1,0 +1,2 @@
+-- The code's values as those of the definitions, and what its functions ask and do.
+pub mod View
