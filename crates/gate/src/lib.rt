@@ -155,7 +155,7 @@ fn apart(c: u32, x: i32, y: i32, z: i32) -> bool
 }
 
 // What is given for the first test that fails, or 0 where none does.
-fn first_of(fails: &[bool], gives: &[u8]) -> u8
+pub fn first_of(fails: &[bool], gives: &[u8]) -> u8
     requires { ⌜ length (now fails) ≤ length (now gives) ⌝ }
     ensures { λ r. ⌜ r ≡ Refusals.firstOf (numbered (now (fails .entry)) (now (gives .entry))) 0 ⌝ }
 {
@@ -272,7 +272,7 @@ pub fn fault_at(list: &[i32], wires: usize, bits: usize, i: usize) -> u8
 }
 
 // The field that it names, asked only of a gate that is refused.
-fn field_at(list: &[i32], wires: usize, bits: usize, i: usize) -> u8
+pub fn field_at(list: &[i32], wires: usize, bits: usize, i: usize) -> u8
     requires { ⌜ width * i + width ≤ length (now list) ⌝ }
     ensures { λ r. ⌜ r ≡ Refusals.faultAt (now (list .entry)) wires bits i .field ⌝ }
 {
@@ -283,7 +283,7 @@ fn field_at(list: &[i32], wires: usize, bits: usize, i: usize) -> u8
 // ---- the check of a list
 
 // Every refusal is made here.
-fn refused(number: u8, place: usize, field: u8) -> Verdict
+pub fn refused(number: u8, place: usize, field: u8) -> Verdict
     ensures { λ r. ⌜ verdictOf r ≡ Refusals.refuse (Refusals.tell number field) place ⌝ }
 {
     Verdict::Refused(Refusal {
