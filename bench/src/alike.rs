@@ -1,0 +1,48 @@
+//! Times `dilkovan_alike` on lists against themselves, the slowest answer: every wire's sums are made. The least of seven runs, in milliseconds of processor.
+mod random;
+use random::Random;
+
+unsafe extern "C" {
+    /// Microseconds of processor that the program has had.
+    fn clock() -> i64;
+    fn dilkovan_alike(first: *const i32, first_length: usize, second: *const i32, second_length: usize, wires: usize) -> u64;
+}
+
+/// Any gates of the fragment.
+fn mixed(r: &mut Random, wires: usize, gates: usize) -> Vec<i32> {
+    (0..gates)
+        .flat_map(|_| {
+            let (code, a) = (1 + r.below(9) as i32, r.below(wires));
+            let b = (a + 1 + r.below(wires - 1)) % wires;
+            [code, a as i32, if code > 7 { b as i32 } else { 0 }, 0, if code == 7 { r.below(8) as i32 } else { 0 }, 0]
+        })
+        .collect()
+}
+
+/// Rotations by an odd turn on a parity of all wires.
+fn full(wires: usize, gates: usize) -> Vec<i32> {
+    (0..gates).flat_map(|k| if k + 1 < wires { [8, k as i32 + 1, 0, 0, 0, 0] } else { [2, 0, 0, 0, 0, 0] }).collect()
+}
+
+fn least(list: &[i32], wires: usize) -> f64 {
+    let mut times: Vec<f64> = (0..7)
+        .map(|_| {
+            let start = unsafe { clock() };
+            let told = unsafe { dilkovan_alike(list.as_ptr(), list.len(), list.as_ptr(), list.len(), wires) };
+            assert_eq!(told, 0);
+            (unsafe { clock() } - start) as f64 / 1e3
+        })
+        .collect();
+    times.sort_by(f64::total_cmp);
+    times[0]
+}
+
+fn main() {
+    let most: usize = std::env::args().nth(1).expect("the most gates").parse().expect("a number");
+    println!("| wires | gates | mixed | full parities |\n|---|---|---|---|");
+    for (wires, gates) in [(8, 512), (32, 2048), (128, 1024), (128, 8192), (128, 65536)] {
+        if gates <= most {
+            println!("| {wires} | {gates} | {:.1} | {:.1} |", least(&mixed(&mut Random(5), wires, gates), wires), least(&full(wires, gates), wires));
+        }
+    }
+}
