@@ -1,3 +1,4 @@
 pub mod Checking
 pub mod Meaning
+pub mod Placing
 pub mod Cases
