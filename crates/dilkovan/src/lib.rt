@@ -6,6 +6,7 @@ use trace::TRACE_BYTES;
 ghost use mathlib.Core.Bool.{cond};
 ghost use mathlib.Core.Path.{_≡_};
 ghost use Rattle.cnot_min.specs.Minimizing.{told, counted};
+ghost use Rattle.alike.specs.Answering as Alike;
 ghost use Rattle.list.specs.Answer as List;
 ghost use Rattle.list.specs.Contracts.{Lists};
 ghost use Rattle.import.specs.Answer as Import;
@@ -17,6 +18,7 @@ ghost use Rattle.shorten.specs.Contracts.{Shortens};
 ghost use Rattle.trace.specs.Answer as Trace;
 ghost use Rattle.trace.specs.Contracts.{Traces};
 ghost use Rattle.dilkovan.specs.Doors.{coded, listed, Exports, ExportsText, Placed};
+ghost use Rattle.dilkovan.specs.Pairs.{codedPair, Blamed, ExportsAlike};
 
 // 0 where it is done; else the refusal's field * 2^48 + its number * 2^32 + its place.
 fn code(a: Answer) -> u64
@@ -68,6 +70,31 @@ pub extern "C" fn dilkovan_cnot_min(
     };
     store(c, counts);
     0
+}
+
+// 0 same, 1 linear map, 2 flips, 3 phase; else the refusal's list * 2^56 + its field * 2^48 + its number * 2^32 + its place.
+fn blamed(a: alike::Answer) -> u64
+    requires { ⌜ Blamed a ⌝ }
+    ensures { λ r. ⌜ r ≡ codedPair (Alike.told a) ⌝ }
+{
+    match a {
+        alike::Answer::Refused(b) => {
+            let list = b.list;
+            let r = b.refusal;
+            (list as u64 * 256 + r.field as u64) * 281474976710656
+                + r.number as u64 * 4294967296
+                + r.place as u64
+        }
+        alike::Answer::Told(v) => acting::number(v),
+    }
+}
+
+// `alike::alike`.
+#[no_mangle]
+pub extern "C" fn dilkovan_alike(first: &[i32], second: &[i32], wires: usize) -> u64
+    ensures { λ r. ⌜ ExportsAlike (now (first .entry)) (now (second .entry)) wires r ⌝ }
+{
+    blamed(alike::alike(first, second, wires))
 }
 
 // 1 where it is so.
