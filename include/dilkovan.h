@@ -20,6 +20,7 @@
  *   14 a measure's classical bit out of range                 13  a wrong or missing line
  *   9  the same wire twice in one gate                        12  more than 896 gates; 3  as on the left
  *   18 a negative line
+ *   dilkovan_alike has of these 1 to 3, 6 to 9, 14 and 18, and besides: 16  a code above 9; 17  more than 128 wires
  *
  * In this order; 8 and 14 as the fields stand. The place is the gate's index from 0 for 6 to 9, 14, 18 and export's 13, the line's number from 1 for
  * 11, 12 of a list and 13 of a laboratory's text, and else 0. The field is 1, 2 or 3 for 8 and 14, the first of the gate's `first`, `second` and
@@ -58,6 +59,22 @@ extern "C" {
 uint64_t dilkovan_cnot_min(const int32_t *list, size_t list_length, size_t wires, size_t bits, size_t qubit_cap, size_t term_cap,
                            int32_t *out, size_t out_length, uint64_t *terms, size_t terms_length, uint32_t *steps,
                            size_t steps_length, uint64_t counts[8]);
+
+/* Do two lists of gates of codes 1 to 9, over the same wires and with no classical bits, act alike?
+ *
+ * Answers DILKOVAN_SAME when every setting of the wires goes to the same setting, and phases differ by one number common to all settings, modulo 8; else the
+ * first that differs: DILKOVAN_MAP where between some two settings other wires change, DILKOVAN_FLIPS where the zeros go elsewhere, DILKOVAN_PHASE where no one
+ * number will do. Lines don't matter. Nothing is lent or written; its own tables are on the stack.
+ *
+ * Else it answers the refusal's list * 2^56 + its field * 2^48 + its number * 2^32 + its place; the list is 1 or 2. For each list 1, 2, 3, then 17 for more than 128
+ * wires, then gate by gate 6, 7, 8 or 14, 9, 16 for a code above 9, and 18; all of the first list before any of the second. 3 and 17 belong to the first. */
+#define DILKOVAN_SAME 0
+#define DILKOVAN_MAP 1
+#define DILKOVAN_FLIPS 2
+#define DILKOVAN_PHASE 3
+#define DILKOVAN_LIST(answer) ((answer) >> 56)
+#define DILKOVAN_LIST_FIELD(answer) ((answer) >> 48 & 0xff)
+uint64_t dilkovan_alike(const int32_t *first, size_t first_length, const int32_t *second, size_t second_length, size_t wires);
 
 /* The bytes that `out` of the functions below must have: the longest answer fits. */
 #define DILKOVAN_LIST_BYTES (12 * DILKOVAN_WIDTH * 896 + 256)
