@@ -378,6 +378,42 @@ static void laboratories(void) {
     call(dilkovan_trace, "trace, 32,769 bytes", bytes, LONGEST + 1, 1, "refused 10 0 0\n");
 }
 
+/* ---- two lists */
+
+static void pair(const char *name, const int32_t *first, size_t a, const int32_t *second, size_t b, size_t wires, uint64_t want) {
+    Room one = lend_filled(first, a * sizeof *first), two = lend_filled(second, b * sizeof *second);
+    calls++;
+    if (dilkovan_alike(inside(one), a, inside(two), b, wires) != want)
+        fail(name, "another answer");
+    settle(name, "the first list", one, first, a * sizeof *first, 0);
+    settle(name, "the second list", two, second, b * sizeof *second, 0);
+}
+
+static uint64_t refused(uint64_t list, uint64_t number, uint64_t place, uint64_t field) {
+    return list << 56 | field << 48 | number << 32 | place;
+}
+
+static void pairs(void) {
+    static const int32_t none[1], x[] = {1, 0, 0, 0, 0, 0}, t[] = {2, 0, 0, 0, 0, 1}, t2[] = {2, 0, 0, 0, 0, 2}, s[] = {4, 0, 0, 0, 0, 0};
+    static const int32_t xcnot[] = {1, 0, 0, 0, 0, 0, 8, 0, 1, 0, 0, 0}, czcz[] = {9, 0, 1, 0, 0, 0, 9, 0, 1, 0, 0, 0};
+    static const int32_t swap[] = {1, 0, 0, 0, 0, 0, 17, 0, 1, 0, 0, 0}, measure[] = {27, 0, 0, 0, 0, 0}, line[] = {1, 0, 0, 0, 0, -1};
+    static const int32_t wide[] = {8, 0, 2, 0, 0, 0};
+    pair("nothing", none, 0, none, 0, 0, DILKOVAN_SAME);
+    pair("cz twice", czcz, 12, none, 0, 2, DILKOVAN_SAME);
+    pair("other lines", t, 6, t2, 6, 1, DILKOVAN_SAME);
+    pair("map", xcnot, 12, t, 6, 2, DILKOVAN_MAP);
+    pair("flips", x, 6, t, 6, 1, DILKOVAN_FLIPS);
+    pair("phase", s, 6, t, 6, 128, DILKOVAN_PHASE);
+    pair("a length", none, 0, x, 1, 1, refused(2, 1, 0, 0));
+    pair("a swap", x, 6, swap, 12, 2, refused(2, 16, 1, 0));
+    pair("both", measure, 6, swap, 12, 2, refused(1, 14, 0, 2));
+    pair("a wire", wide, 6, none, 0, 2, refused(1, 8, 0, 2));
+    pair("a line", line, 6, none, 0, 1, refused(1, 18, 0, 0));
+    pair("wires", none, 0, x, 1, 129, refused(1, 17, 0, 0));
+    if (DILKOVAN_LIST(refused(2, 8, 3, 1)) != 2 || DILKOVAN_LIST_FIELD(refused(2, 8, 3, 1)) != 1 || DILKOVAN_NUMBER(refused(2, 8, 3, 1)) != 8 || DILKOVAN_PLACE(refused(2, 8, 3, 1)) != 3)
+        fail("a refusal's parts", "not read back");
+}
+
 int main(void) {
     int32_t *list = malloc(DILKOVAN_WIDTH * (MOST + 1) * sizeof *list);
     if (!list)
@@ -389,6 +425,7 @@ int main(void) {
         large(list);
         texts();
         laboratories();
+        pairs();
     }
     free(list);
     printf("boundary: %zu calls, %zu bytes compared, ok\n", calls, compared);
