@@ -69,7 +69,7 @@ lineOf (many k) = k
 lineOf (read h ns) = 0
 
 -- the wrong line's number, or the next one's
-abbrev frontLine : Front → ℕ
+abbrev pub frontLine : Front → ℕ
 frontLine (wrong k) = k
 frontLine (large k) = k
 frontLine (list h ns k left) = k
@@ -94,6 +94,11 @@ ending-line (large k) = omega arith
 ending-line (list h ns k []) = omega arith
 ending-line (list h ns k (b ∷ bs)) = omega arith
 
+-- of a list from line k on
+pub front-line : (most k : ℕ) (bs : List ℕ) → frontLine (listAt most k bs) ≤ k + 7 + most
+unfolding listAt
+front-line most k bs = omega (arith, headed-line most (k + 6) (headAt k bs) (head-number k bs))
+
 pub text-line : (most : ℕ) (bs : List ℕ) → lineOf (readText most bs) ≤ 8 + most
-unfolding readText listAt
-text-line most bs = omega (arith, ending-line (listAt most 1 bs), headed-line most 7 (headAt 1 bs) (head-number 1 bs))
+unfolding readText
+text-line most bs = omega (arith, ending-line (listAt most 1 bs), front-line most 1 bs)
