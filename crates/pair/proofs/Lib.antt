@@ -1,3 +1,4 @@
 mod Cases
 mod Telling
 mod Fronts
+mod Meaning

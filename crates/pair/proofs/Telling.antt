@@ -1,4 +1,4 @@
--- What the library answers, as it is printed; and what is printed of a list that was read.
+-- What is written stands in the room; and what the library answers, as it is printed.
 use mathlib.Core.Path.{_≡_, sym, ap, subst, _∙_}
 use mathlib.Core.Bool.{Bool}
 use mathlib.Core.List.{List}
