@@ -17,6 +17,8 @@ ghost use Rattle.shorten.specs.Answer as Shorten;
 ghost use Rattle.shorten.specs.Contracts.{Shortens};
 ghost use Rattle.trace.specs.Answer as Trace;
 ghost use Rattle.trace.specs.Contracts.{Traces};
+ghost use Rattle.pair.specs.Answer as Pair;
+ghost use Rattle.pair.specs.Contracts as Paired;
 ghost use Rattle.dilkovan.specs.Doors.{coded, listed, Exports, ExportsText, Placed};
 ghost use Rattle.dilkovan.specs.Pairs.{codedPair, Blamed, ExportsAlike};
 
@@ -172,4 +174,18 @@ pub extern "C" fn dilkovan_trace(
     let t = trace::trace(text, out);
     *length = t.length;
     flag(t.refused)
+}
+
+// `pair::pair`.
+#[no_mangle]
+pub extern "C" fn dilkovan_pair(
+    text: &[u8],
+    out: &mut [u8; ANSWER_BYTES],
+    length: &mut usize,
+) -> u64
+    ensures { λ r. ⌜ ExportsText Pair.answer Paired.Pairs (now (text .entry)) (now (out .entry)) r (now (out .exit)) (now (length .exit)) ⌝ }
+{
+    let p = pair::pair(text, out);
+    *length = p.length;
+    flag(p.refused)
 }
