@@ -21,6 +21,7 @@
  *   9  the same wire twice in one gate                        12  more than 896 gates; 3  as on the left
  *   18 a negative line
  *   dilkovan_alike has of these 1 to 3, 6 to 9, 14 and 18, and besides: 16  a code above 9; 17  more than 128 wires
+ *   dilkovan_pair has those of dilkovan_alike but 1 and 2, and besides 10 to 12 as for a list
  *
  * In this order; 8 and 14 as the fields stand. The place is the gate's index from 0 for 6 to 9, 14, 18 and export's 13, the line's number from 1 for
  * 11, 12 of a list and 13 of a laboratory's text, and else 0. The field is 1, 2 or 3 for 8 and 14, the first of the gate's `first`, `second` and
@@ -98,6 +99,14 @@ uint64_t dilkovan_qasm(const uint8_t *text, size_t text_length, uint8_t out[DILK
  * refusals are those of dilkovan_qasm. The deepest stack measured: 157,207 bytes. */
 #define DILKOVAN_TRACE_BYTES (85 * 896)
 uint64_t dilkovan_trace(const uint8_t *text, size_t text_length, uint8_t out[DILKOVAN_TRACE_BYTES], size_t *length);
+
+/* Do the two lists of one text, whose texts stand one behind the other, act alike? As `./dilkovan alike` does. `out` and *length are those of dilkovan_list.
+ *
+ * Answers 0 when both lists were taken: printed is "same", or the first that differs, "map", "flips" or "phase", as of dilkovan_alike. Answers 1 when
+ * they were refused: printed is "refused LIST NUMBER PLACE FIELD". First come 10, then 11 and 12 line by line, where lines count over the whole text and
+ * 11 is also told of the second list's line of wires where they aren't the first's; then the refusals of dilkovan_alike. The list is 1 or 2, and 0 for 10 and for
+ * a surplus line. Bits, caps and the form of each head may differ, and bits and caps are not looked at. */
+uint64_t dilkovan_pair(const uint8_t *text, size_t text_length, uint8_t out[DILKOVAN_LIST_BYTES], size_t *length);
 
 #ifdef __cplusplus
 }

@@ -414,6 +414,42 @@ static void pairs(void) {
         fail("a refusal's parts", "not read back");
 }
 
+/* ---- two lists in one text */
+
+static void both(const char *name, const char *bytes, uint64_t refused, const char *printed) {
+    call(dilkovan_pair, name, bytes, strlen(bytes), refused, printed);
+}
+
+#define TWO "head 4\n2\n0\n128\n512\n"
+
+static void paired(void) {
+    static char bytes[2 * LONGEST];
+    both("cz twice, and nothing", TWO "gates 2\n9 0 1 0 0\n9 0 1 0 0\n" TWO "gates 0\n", 0, "same\n");
+    both("heads of two forms", TWO "gates 1\n2 1 0 0 0\nhead 5\n2\n9\n1\n1\n6\ngates 1\n2 1 0 0 0 7\n", 0, "same\n");
+    both("map", TWO "gates 2\n1 0 0 0 0\n8 0 1 0 0\n" TWO "gates 1\n2 0 0 0 0\n", 0, "map\n");
+    both("flips", TWO "gates 1\n1 0 0 0 0\n" TWO "gates 1\n2 0 0 0 0\n", 0, "flips\n");
+    both("phase", TWO "gates 1\n4 0 0 0 0\n" TWO "gates 1\n2 0 0 0 0\n", 0, "phase\n");
+    both("no text", "", 1, "refused 1 11 1 0\n");
+    both("no second list", TWO "gates 0\n", 1, "refused 2 11 7 0\n");
+    both("2,000 gates", TWO "gates 0\n" TWO "gates 2000\n", 1, "refused 2 12 12 0\n");
+    both("a measure", TWO "gates 1\n27 0 0 0 0\n" TWO "gates 0\n", 1, "refused 1 14 0 2\n");
+    both("a swap", TWO "gates 0\n" TWO "gates 2\n1 0 0 0 0\n17 0 1 0 0\n", 1, "refused 2 16 1 0\n");
+    both("other wires", TWO "gates 0\n" HEAD "gates 0\n", 1, "refused 2 11 8 0\n");
+    both("more wires than are compared", HEAD "gates 0\n" HEAD "gates 0\n", 1, "refused 1 17 0 0\n");
+    both("a surplus line", TWO "gates 0\n" TWO "gates 0\n\n", 1, "refused 0 11 13 0\n");
+    /* two long lists; a text as long as may be, and one byte more */
+    size_t n = 0;
+    for (int list = 0; list < 2; list++) {
+        n += (size_t)sprintf(bytes + n, TWO "gates 512\n");
+        for (int i = 0; i < 512; i++)
+            n += (size_t)sprintf(bytes + n, "7 0 0 0 %d\n", 800008);
+    }
+    call(dilkovan_pair, "two lists of 512 gates", bytes, n, 0, "same\n");
+    memset(bytes + n, 'x', LONGEST + 1 - n);
+    call(dilkovan_pair, "the longest text", bytes, LONGEST, 1, "refused 0 11 1037 0\n");
+    call(dilkovan_pair, "one byte more", bytes, LONGEST + 1, 1, "refused 0 10 0 0\n");
+}
+
 int main(void) {
     int32_t *list = malloc(DILKOVAN_WIDTH * (MOST + 1) * sizeof *list);
     if (!list)
@@ -426,6 +462,7 @@ int main(void) {
         texts();
         laboratories();
         pairs();
+        paired();
     }
     free(list);
     printf("boundary: %zu calls, %zu bytes compared, ok\n", calls, compared);
