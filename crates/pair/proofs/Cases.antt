@@ -39,9 +39,9 @@ cases =
     ∷ plain "head 4\n1\n0\n128\n512\ngates 1\n2 0 0 0 0\nhead 5\n1\n2000\n0\n0\n6\ngates 1\n2 0 0 0 0 9\n" "same\n"
     -- a line that is malformed or missing, by its number over the whole text; too many gates
     ∷ plain "" "refused 1 11 1 0\n"
-    ∷ plain "head 4\n1\n0\n128\n512\ngates 513\n" "refused 1 12 6 0\n"
+    ∷ plain "head 4\n1\n0\n128\n512\ngates 2000\n" "refused 1 12 6 0\n"
     ∷ plain "head 4\n1\n0\n128\n512\ngates 0\n" "refused 2 11 7 0\n"
-    ∷ both "gates 0\n" "gates 513\n" "refused 2 12 12 0\n"
+    ∷ both "gates 0\n" "gates 2000\n" "refused 2 12 12 0\n"
     ∷ both "gates 0\n" "gates 1\n2 0 0 0\n" "refused 2 11 13 0\n"
     -- other wires, by the line of the second list's, once both are read; then a surplus line
     ∷ plain "head 4\n1\n0\n128\n512\ngates 0\nhead 4\n2\n0\n128\n512\ngates 0\n\n" "refused 2 11 8 0\n"
