@@ -44,7 +44,7 @@ module _ (text : List ℕ) (h : Head) (ns : List ℤ) (is : readText listGates t
 
 text-kept : (text : List ℕ) → answer text .refused ≡ false → Translated text (answer text .text)
 unfolding answer
-text-kept text f = answer-kept (Translated text) translated text (accepted-kept text) f
+text-kept text f = answer-kept (Translated text) exact translated text (accepted-kept text) f
 
 pub exports : (text room : List ℕ) (r : Said) (room′ : List ℕ) → Says (answer text) room r room′ → Exports text room r room′
 exports text room r room′ s = record { says = s; translated = λ e. rw (says-shown _ room r room′ s) (text-kept text (sym (s .refused) ∙ e)) }

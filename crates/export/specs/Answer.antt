@@ -8,7 +8,7 @@ use lib.ListN.{length}
 use Rattle.rules.specs.Limits.{width}
 use Rattle.rules.specs.Refusal.{firstOf}
 use Rattle.spelling.specs.Texts.{Head}
-use Rattle.saying.specs.Answer.{Answer, answered, refusal, answerBy}
+use Rattle.saying.specs.Answer.{Answer, answered, refusal, checked, answerBy}
 use Rattle.qasm.specs.Export.{qasmText, unspelled}
 
 -- an accepted list. 13: the first gate that the laboratories' text doesn't spell, by its index; else that text
@@ -21,4 +21,4 @@ translated h numbers =
 -- the list is checked as the list program does: 10, then line by line, then 3, then gate by gate; then 13
 unfoldable pub answer : List ℕ → Answer
 unfolding answerBy translated
-answer text = answerBy translated text
+answer text = answerBy (checked translated) text

@@ -79,7 +79,7 @@ module _ (text : List ℕ) (h : Head) (ns : List ℤ) (is : readText listGates t
 
 text-kept : (text : List ℕ) → answer text .refused ≡ false → Kept text (answer text .text)
 unfolding answer
-text-kept text f = answer-kept (Kept text) shortened text (λ h ns is e g. accepted-kept text h ns is e) f
+text-kept text f = answer-kept (Kept text) exact shortened text (λ h ns is e g. accepted-kept text h ns is e) f
 
 pub lists : (text room : List ℕ) (r : Said) (room′ : List ℕ) → Says (answer text) room r room′ → Lists text room r room′
 lists text room r room′ s = record { says = s; kept = λ e. rw (says-shown _ room r room′ s) (text-kept text (sym (s .refused) ∙ e)) }

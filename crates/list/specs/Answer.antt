@@ -5,7 +5,7 @@ use lib.IntN.{ℤ}
 use Rattle.rules.specs.Numbers.{gatesOf, numbersOf}
 use Rattle.rules.specs.Pass.{Counts, pass, counts}
 use Rattle.spelling.specs.Texts.{Head, resultText}
-use Rattle.saying.specs.Answer.{Answer, answered, answerBy}
+use Rattle.saying.specs.Answer.{Answer, answered, checked, answerBy}
 
 -- the eight counts, in their order
 abbrev pub countNumbers : Counts → List ℕ
@@ -22,4 +22,4 @@ shortened h numbers =
 -- 10, then line by line, then 3, then gate by gate
 unfoldable pub answer : List ℕ → Answer
 unfolding answerBy shortened
-answer text = answerBy shortened text
+answer text = answerBy (checked shortened) text

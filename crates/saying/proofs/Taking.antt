@@ -22,16 +22,16 @@ use Rattle.reading.specs.Contracts as Reads
 use Rattle.reading.specs.Contracts.{ReadsText, met}
 use Rattle.reading.specs.declared.Read as ReadIs
 use Rattle.reading.specs.declared.Read.the-variants.{Good}
-use Rattle.saying.specs.Answer.{Next, refusal, exact, judged, checked, readAs, answerBy}
+use Rattle.saying.specs.Answer.{Judge, Next, refusal, judged, judgedBy, readAs, answerBy}
 use Rattle.saying.specs.Contracts.{Held}
 
 pub answer-long : (next : Next) (text : List ℕ) → listBytes < length text → answerBy next text ≡ refusal 10 0 0
 unfolding answerBy
 answer-long next text h = rw (lt-ltb listBytes (length text) h)
 
-pub answer-read : (next : Next) (text : List ℕ) (r : Read) → length text ≤ listBytes → r ≡ readText listGates text → answerBy next text ≡ readAs (checked next) r
+pub answer-read : (next : Next) (text : List ℕ) (r : Read) → length text ≤ listBytes → r ≡ readText listGates text → answerBy next text ≡ readAs next r
 unfolding answerBy
-answer-read next text r h e = rw (le-ltb listBytes (length text) h) (ap (readAs (checked next)) (sym e))
+answer-read next text r h e = rw (le-ltb listBytes (length text) h) (ap (readAs next) (sym e))
 
 pub held : (text : List ℕ) (room room′ : List ℤ) (r : ReadIs.Read) (h : HeadIs.Head) (n : ℕ) → length text ≤ listBytes → ReadsText text listGates room room′ r → r ≡ Good h n
     → Held text room′ h n
@@ -50,18 +50,18 @@ held text room room′ r h n short t e =
 
 -- ---- what holds of each answer to an accepted list holds of each answer that is no refusal
 
-module _ (P : List ℕ → Type 0) (next : Next) (text : List ℕ)
-    (kept : (h : Head) (ns : List ℤ) → readText listGates text ≡ read h ns → exact h ns ≡ accepted → next h ns .refused ≡ false → P (next h ns .text)) where
-  judged-kept : (h : Head) (ns : List ℤ) → readText listGates text ≡ read h ns → (v : Verdict) → exact h ns ≡ v → judged (next h ns) v .refused ≡ false → P (judged (next h ns) v .text)
+module _ (P : List ℕ → Type 0) (judge : Judge) (next : Next) (text : List ℕ)
+    (kept : (h : Head) (ns : List ℤ) → readText listGates text ≡ read h ns → judge h ns ≡ accepted → next h ns .refused ≡ false → P (next h ns .text)) where
+  judged-kept : (h : Head) (ns : List ℤ) → readText listGates text ≡ read h ns → (v : Verdict) → judge h ns ≡ v → judged (next h ns) v .refused ≡ false → P (judged (next h ns) v .text)
   judged-kept h ns e (refused r) x f = absurd (true≢false f)
   judged-kept h ns e accepted x f = kept h ns e x f
 
-  read-kept : (r : Read) → readText listGates text ≡ r → readAs (checked next) r .refused ≡ false → P (readAs (checked next) r .text)
+  read-kept : (r : Read) → readText listGates text ≡ r → readAs (judgedBy judge next) r .refused ≡ false → P (readAs (judgedBy judge next) r .text)
   read-kept (malformed k) e f = absurd (true≢false f)
   read-kept (many k) e f = absurd (true≢false f)
-  read-kept (read h ns) e f = judged-kept h ns e (exact h ns) refl f
+  read-kept (read h ns) e f = judged-kept h ns e (judge h ns) refl f
 
-  pub answer-kept : answerBy next text .refused ≡ false → P (answerBy next text .text)
+  pub answer-kept : answerBy (judgedBy judge next) text .refused ≡ false → P (answerBy (judgedBy judge next) text .text)
   unfolding answerBy
   answer-kept f =
       split (ltb listBytes (length text))

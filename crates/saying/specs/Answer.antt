@@ -51,10 +51,19 @@ readAs next (malformed line) = refusal 11 line 0
 readAs next (many line) = refusal 12 line 0
 readAs next (read h numbers) = next h numbers
 
--- 10, then line by line, then 3, then gate by gate; then what the program says of an accepted list
-abbrev pub checked : Next → Head → List ℤ → Answer
-checked next h numbers = judged (next h numbers) (exact h numbers)
+-- what a list that was read is refused by, if it is
+abbrev pub Judge : Type 0
+Judge = Head → List ℤ → Verdict
 
+-- what the program says of an accepted list
+abbrev pub judgedBy : Judge → Next → Next
+judgedBy judge next h numbers = judged (next h numbers) (judge h numbers)
+
+-- the list program's own judge: 3, then gate by gate
+abbrev pub checked : Next → Next
+checked next = judgedBy exact next
+
+-- 10, then line by line; then what the program says of the list
 unfoldable pub answerBy : Next → List ℕ → Answer
 unfolding readText exact refusalText
-answerBy next text = unlessLong text (readAs (checked next) (readText listGates text))
+answerBy next text = unlessLong text (readAs next (readText listGates text))

@@ -10,7 +10,7 @@ use Rattle.spelling.specs.Sizes.{listGates}
 use Rattle.spelling.specs.Reading.{read, readText}
 use Rattle.spelling.specs.Heads.{headOf}
 use Rattle.spelling.specs.declared.Head.{Head}
-use Rattle.saying.specs.Answer.{Answer, Next, checked, answerBy}
+use Rattle.saying.specs.Answer.{Answer, Next, answerBy}
 use Rattle.saying.specs.declared.Said.{Said}
 use Rattle.saying.specs.declared.Taken.{Taken}
 use Rattle.saying.specs.declared.Taken.the-variants.{Refused, Good}
@@ -39,7 +39,7 @@ pub record Held (text : List ℕ) (numbers′ : List ℤ) (h : Head) (n : ℕ) :
   pub fits : width * n ≤ length numbers′
   pub few : Few (take (width * n) numbers′)
   pub reads : readText listGates text ≡ read (headOf h) (take (width * n) numbers′)
-  pub answer : (next : Next) → answerBy next text ≡ checked next (headOf h) (take (width * n) numbers′)
+  pub answer : (next : Next) → answerBy next text ≡ next (headOf h) (take (width * n) numbers′)
 
 -- nothing is printed for a list that was read
 abbrev pub Takes : List ℕ → List ℕ → List ℤ → Taken → List ℕ → Type 0

@@ -4,7 +4,7 @@ use native.Mathlib.Omega.{arith}
 use borrow.Author.Needs.{needs}
 use lib.ListN.{length}
 use lib.Seq.{length-take-le}
-use Rattle.saying.specs.Answer.{answerBy}
+use Rattle.saying.specs.Answer.{checked, answerBy}
 use Rattle.saying.specs.Contracts.{Declined, Held, Takes}
 use Rattle.saying.specs.declared.Taken.{Taken}
 use Rattle.list.specs.Answer.{shortened, answer}
@@ -56,14 +56,14 @@ same-length c = search needs
 
 returns : tie.Need-returns
 unfolding answer
-returns c = let d = declined (c .before) in rw (d .is shortened) (d .says)
+returns c = let d = declined (c .before) in rw (d .is (checked shortened)) (d .says)
 
 same-length-2 : tie.Need-same-length-2
 same-length-2 c = search needs
 
 returns-2 : tie.Need-returns-2
 unfolding answer
-returns-2 c = let h = held (c .before .before .before .before .before .before) in rw (h .0 .answer shortened) (rw (h .1) at (c .before .before .minimize .ensures))
+returns-2 c = let h = held (c .before .before .before .before .before .before) in rw (h .0 .answer (checked shortened)) (rw (h .1) at (c .before .before .minimize .ensures))
 
 pub answer-spec : {M : Type 1} → statement M
 answer-spec =
