@@ -86,7 +86,7 @@ pub fn emit_cnot(out: &mut [i32], b: Budget, control: Wire, target: Wire) -> Pus
 }
 
 // The first gate of a turn from 1 to 7: t, s, s, z, z, sdg, tdg.
-fn lead(k: u8) -> u32
+pub fn lead(k: u8) -> u32
     ensures { λ r. ⌜ r ≡ Turns.lead k ⌝ }
 {
     if k == 1 {

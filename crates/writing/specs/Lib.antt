@@ -1,0 +1,2 @@
+-- What a writing promises.
+pub mod Written
