@@ -63,6 +63,9 @@ module _ (n c : ℕ) (d : Adds) where
   pub reduce-next : (e : Adds) → c < n → diagonal n c d ≡ some e → reduceFrom n (n - c) c d ≡ reduceFrom n (n - (c + 1)) (c + 1) (clear c n zero e)
   reduce-next e l f = step l ∙ rw f
 
+  pub reduce-stuck : c < n → diagonal n c d ≡ none → reduceFrom n (n - c) c d ≡ none
+  reduce-stuck l f = step l ∙ rw f
+
 -- ---- additions are never taken back
 
 size-note : (a b : ℕ) (d : Adds) → size (note a b d) ≡ size d + 1
@@ -111,7 +114,7 @@ lost-diagonal limit n c d W w l h = rw (w ∙ step n c d l) (go (diagonal n c d)
     go (some e) q = over-more limit n (n - (c + 1)) (c + 1) (clear c n zero e) (omega (arith, clear-grows c n zero e))
 
 module _ (m room : List ℕ) (k : ℕ) (fits : 2 * k ≤ length room) where
-  held-size : size (held m room k) ≡ k
+  pub held-size : size (held m room k) ≡ k
   unfolding held
   held-size = length-take-le k (stepsOf room) (omega (arith, step-count room))
 

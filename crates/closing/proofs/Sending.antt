@@ -93,7 +93,7 @@ module _ (ws steps : List ℕ) (k : ℕ) (fits : 2 * k ≤ length steps) where
 
 module _ (from to rows : List ℕ) (l : length from ≡ length to) (is : closing from to ≡ reversed rows) where
   -- it ended: the closing map is its additions in reverse
-  closing-made : (limit k : ℕ) (steps : List ℕ) → Made limit k (wanted rows) steps → reversed rows ≡ some (backwards steps k)
+  pub closing-made : (limit k : ℕ) (steps : List ℕ) → Made limit k (wanted rows) steps → reversed rows ≡ some (backwards steps k)
   closing-made limit k steps m =
       ap (λ (o : Option Adds). andThen o (λ m. some (reverse (m .adds)))) (m .whole) ∙ ap (λ (a : List Step). some (reverse a)) (sym (m .listed))
 
@@ -168,6 +168,15 @@ closes-needed from to rows e f = go (inverse from) refl f
           ap length g ∙ length-map to (λ v. times v 0 inv),
         )
 
+-- no map is needed that could be had
+pub stuck-none : (from to rows : List ℕ) → eqRows from to ≡ false → given false rows ≡ neededRows (inverse from) to → closing from to ≡ none
+unfolding given
+stuck-none from to rows e f = closing-stuck from to e (go (inverse from) f)
+  where
+    go : (o : Option (List ℕ)) → given false rows ≡ neededRows o to → o ≡ none
+    go none f = refl
+    go (some inv) f = absurd (Option·none-ne-some _ f)
+
 -- ---- each way out
 
 module _ (from to names : List ℕ) (out : List ℤ) (b : Budget) where
@@ -179,14 +188,8 @@ module _ (from to names : List ℕ) (out : List ℤ) (b : Budget) where
         lost = λ q. absurd (Option·none-ne-some [] (sym q ∙ closing-same from to e));
       }
 
-  -- no map is needed that could be had
   pub closes-stuck : (rows : List ℕ) → eqRows from to ≡ false → given false rows ≡ neededRows (inverse from) to → Closes from to names out b out b false
-  unfolding given
-  closes-stuck rows e f = record { emits = λ c q. absurd (Option·none-ne-some c (sym (closing-stuck from to e (go (inverse from) f)) ∙ q)); lost = λ q. refl }
-    where
-      go : (o : Option (List ℕ)) → given false rows ≡ neededRows o to → o ≡ none
-      go none f = refl
-      go (some inv) f = absurd (Option·none-ne-some _ f)
+  closes-stuck rows e f = record { emits = λ c q. absurd (Option·none-ne-some c (sym (stuck-none from to rows e f) ∙ q)); lost = λ q. refl }
 
 -- made, so there is a closing map, and room for more
 pub closes-ready : (from to names : List ℕ) (out : List ℤ) (b : Budget) (out′ : List ℤ) (b′ : Budget) → Closes from to names out b out′ b′ true → Ready out′ b′

@@ -21,7 +21,7 @@ pub enum Closed {
 }
 
 // Writes as entry k that row `from` was added to row `to`.
-fn note(steps: &mut [u32], k: usize, from: usize, to: usize)
+pub fn note(steps: &mut [u32], k: usize, from: usize, to: usize)
     requires { ⌜ (2 * k + 1 < length (now steps)) × ((from < 128) × (to < 128)) ⌝ }
     ensures { λ r. ⌜ Noted k from to (now (steps .entry)) (now (steps .exit)) ⌝ }
 {
@@ -126,7 +126,7 @@ fn emit_steps(names: &[u32], steps: &[u32], k: usize, out: &mut [i32], b: Budget
 }
 
 // The map still needed, the wanted rows times the inverse of those held, in their place; false where they have none.
-fn needed(held: &mut [u64], wanted: &[u64], right: &mut [u64]) -> bool
+pub fn needed(held: &mut [u64], wanted: &[u64], right: &mut [u64]) -> bool
     requires { ⌜ Matrices (now held) (now wanted) (now right) ⌝ }
     ensures { λ r. ⌜ given r (rowsOf (now (held .exit))) ≡ neededRows (inverse (rowsOf (now (held .entry)))) (rowsOf (now (wanted .entry))) ⌝ }
 {
