@@ -47,16 +47,6 @@ flips-rows names hs v (suc n) i =
     let h = flips-rows names hs v n (suc i) in
     split (bit v i) (λ e. rw e (ap (λ (l : List Gate). gate1 codeX (getD names i 0) ∷ l) h)) (λ e. rw e h)
 
--- ---- the terms that enter the walk
-
-module _ (n r : ℕ) (xs ys : List ℕ) (b : Begins (nonzero (take n (termsOf xs))) r n (termsOf xs) (termsOf ys)) where
-  pub entering-few : r ≤ length (termsOf ys)
-  entering-few = omega (arith, ap length (b .front), b .many, length-take r (termsOf ys))
-
-  pub entering-walk : (k : ℕ) → left k (node (2 ^ k - 1) free (termsOf (take (3 * r) ys)) ∷ []) ≡ phaseWalk k (take n (termsOf xs))
-  entering-walk k =
-      ap (λ (ts : List Term). left k (node (2 ^ k - 1) free ts ∷ [])) (room-take r ys entering-few ∙ b .front) ∙ sym (left-first k (take n (termsOf xs)))
-
 -- ---- the three parts
 
 module _ (names hs : List ℕ) (v n : ℕ) (ts : List Term) (ln : length names ≡ n) (lh : length hs ≡ n) where

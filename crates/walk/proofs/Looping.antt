@@ -33,7 +33,7 @@ stacked-length : {st su : List Node} → Stacked st su → length st ≡ length 
 stacked-length none = refl
 stacked-length (more h k) = ap suc (stacked-length k)
 
-stairs-stacked : (n : ℕ) {st su : List Node} → Stacked st su → Stairs n su → Stairs n st
+pub stairs-stacked : (n : ℕ) {st su : List Node} → Stacked st su → Stairs n su → Stairs n st
 unfolding Stairs
 stairs-stacked n none s = tt
 stairs-stacked n (more h k) s = ((s .0 .0, omega (arith, s .0 .1, stacked-length k)), stairs-stacked n k (s .1))
@@ -103,10 +103,10 @@ walk-end names whole p₀ p w h e =
 
 module _ (names : List ℕ) (n : ℕ) (k : length names ≡ n) (ss old : List Slot) (c : Parity) (e : ss ≡ set old 0 (first c)) (wide : length names + 1 ≤ length old) (v : val c ≡ 2 ^ n - 1)
     (ts : List Term) (end : ℕ) (f : end ≡ length ts) where
-  first-slot : first c ≡ getD ss 0 noSlot
+  pub first-slot : first c ≡ getD ss 0 noSlot
   first-slot = sym (ap (λ (l : List Slot). getD l 0 noSlot) e ∙ getD-set-same old 0 (first c) noSlot (omega arith))
 
-  first-stack : stackOf ss 1 ts end ≡ node (2 ^ n - 1) free ts ∷ []
+  pub first-stack : stackOf ss 1 ts end ≡ node (2 ^ n - 1) free ts ∷ []
   unfolding stackOf
   first-stack =
       stack-at ss 1 ts end 0 refl (first c) first-slot

@@ -17,7 +17,7 @@ use Rattle.emit.specs.Emitted.{Ready, Emits}
 use Rattle.emit.proofs.Appending.{emits-none, emits-then, emits-stop}
 use Rattle.walk.specs.Place.{Synthesized}
 
-held-append : (us vs : List Step) (m : List ℕ) → held (us ++ vs) m ≡ held vs (held us m)
+pub held-append : (us vs : List Step) (m : List ℕ) → held (us ++ vs) m ≡ held vs (held us m)
 unfolding held
 held-append [] vs m = refl
 held-append (cn p t ∷ us) vs m = held-append us vs (held (cn p t ∷ []) m)

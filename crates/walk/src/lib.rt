@@ -124,7 +124,7 @@ pub fn end_leaf(set: &[u64], target: u64, names: &[u32], out: &mut [i32], b: Bud
 }
 
 // What is owed is paid.
-fn paid(d: Slot) -> Slot
+pub fn paid(d: Slot) -> Slot
     ensures { λ r. ⌜ r ≡ Stack.paid d ⌝ }
 {
     let cands = d.cands;
@@ -249,7 +249,7 @@ pub fn pay(
 }
 
 // The side with the column c: it takes c as target or, with a target, owes c to it.
-fn takes(d: Slot, rest: Parity, c: u32) -> Slot
+pub fn takes(d: Slot, rest: Parity, c: u32) -> Slot
     ensures { λ r. ⌜ r ≡ Stack.takes d rest c ⌝ }
 {
     let cands = rest;
@@ -272,7 +272,7 @@ fn takes(d: Slot, rest: Parity, c: u32) -> Slot
 }
 
 // The side without: its set begins where the other's ends.
-fn leaves(d: Slot, rest: Parity, ones: usize) -> Slot
+pub fn leaves(d: Slot, rest: Parity, ones: usize) -> Slot
     requires { ⌜ d .start + ones < 2 ^ 64 ⌝ }
     ensures { λ r. ⌜ r ≡ Stack.leaves d rest ones ⌝ }
 {
@@ -490,7 +490,7 @@ pub fn step(
 }
 
 // The node with which the walk begins: no target, nothing owed, all the terms.
-fn first(cands: Parity) -> Slot
+pub fn first(cands: Parity) -> Slot
     ensures { λ r. ⌜ r ≡ Stack.first cands ⌝ }
 {
     Slot {

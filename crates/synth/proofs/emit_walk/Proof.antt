@@ -16,7 +16,7 @@ use Rattle.rows.specs.Rows.{rowsOf}
 use Rattle.rows.proofs.Room.{row-count}
 use Rattle.emit.specs.Emitted.{Emits}
 use Rattle.block.specs.View.{termsAt}
-use Rattle.synth.proofs.Sections.{entering-few, entering-walk}
+use Rattle.walk.proofs.Entering.{entering-few, entering-walk}
 use Rattle.synth.proofs.emit_walk.Statement.{statement}
 use Rattle.synth.proofs.emit_walk.Tie as tie
 
