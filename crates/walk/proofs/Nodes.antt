@@ -16,11 +16,10 @@ use Rattle.rules.specs.Left.{Leads, Stairs}
 use Rattle.rules.proofs.Machine.{crossStack}
 use Rattle.rules.proofs.Visiting.{leads-visit}
 use Rattle.rules.proofs.Walking.{crossAll, tally-rest, best-ok}
-use Rattle.parity.specs.declared.Parity.{Parity}
 use Rattle.parity.specs.View.{val}
 use Rattle.terms.specs.Terms.{Begins}
 use Rattle.walk.specs.declared.Slot.{Slot}
-use Rattle.walk.specs.Stack.{nothing, noSlot, aimTo, aimOf, owing, nodeOf, stackOf, Aimed, Laid, takes, leaves, paid, Branched}
+use Rattle.walk.specs.Stack.{noSlot, aimTo, aimOf, owing, nodeOf, stackOf, Aimed, Laid, takes, leaves, paid, Branched}
 use Rattle.walk.proofs.Stacks.{slice-rest, stack-length, stack-top, stack-at, sound-at, Top, sound-top, stack-slots, sound-slots, stack-terms, stack-cross}
 use Rattle.walk.proofs.Aims.{aim-owes, aim-settled, aim-paid, takes-cands, takes-start, takes-aim, takes-aimed, leaves-aimed, settled-to, visit-none, visit-pay, visit-leaf, visit-split}
 use Rattle.walk.proofs.Splitting.{split-fits, split-front, split-zeros, split-ones}
@@ -38,6 +37,97 @@ not-none (suc cs) q = refl
 
 node-is : {cs ds : ℕ} {a b : Aim} {ts us : List Term} → cs ≡ ds → a ≡ b → ts ≡ us → node cs a ts ≡ node ds b us
 node-is e f g = rw (e, f, g)
+
+-- a node at the place `at` split by its best column, over what waits below it: the side with the column stays in its place, the side without goes on top
+module _ (n : ℕ) (sl : List Slot) (ts : List Term) (depth end at : ℕ) (k : depth ≡ at + 1) (d : Slot) (aimed : Aimed n d) (start : d .start ≤ end) (rest : Laid n sl at (d .start))
+    (fits : end ≤ length ts) (few : val (d .cands) < 2 ^ n) (o : owing d ≡ false) (z : val (d .cands) ≢ 0) (deep : at + 1 < length sl)
+    (ss : List Slot) (us : List Term) (br : Branched d at end ts us sl ss) where
+  abbrev under : List Node
+  under = stackOf sl at ts (d .start)
+
+  abbrev part : List Term
+  part = slice (d .start) end ts
+
+  abbrev c : ℕ
+  c = br .column
+
+  ok : (best n (val (d .cands)) part .0 < n) × (bit (val (d .cands)) (best n (val (d .cands)) part .0) ≡ true)
+  ok = best-ok n (val (d .cands)) part few (not-none (val (d .cands)) z)
+
+  c-is : c ≡ best n (val (d .cands)) part .0
+  c-is = br .best .is n few
+
+  c-lt : c < n
+  c-lt = subst (λ (j : ℕ). j < n) (sym c-is) (ok .0)
+
+  c-in : bit (val (d .cands)) c ≡ true
+  c-in = ap (bit (val (d .cands))) c-is ∙ ok .1
+
+  abbrev x : Slot
+  x = takes d (br .rest) c
+
+  abbrev y : Slot
+  y = leaves d (br .rest) (br .ones)
+
+  abbrev mid : List Slot
+  mid = set sl at x
+
+  abbrev beside : List Node
+  beside = node (val (br .rest)) (aimWith (aimTo (d .target)) c) (side true c part) ∷ under
+
+  abbrev pub halved : List Node
+  halved = node (val (br .rest)) (aimTo (d .target)) (side false c part) ∷ beside
+
+  pub halves-visit : 0 < length part → visit n (nodeOf d ts end) under ≡ record { steps = []; stack = halved }
+  halves-visit some =
+      ap (λ (v : Aim). visit n (node (val (d .cands)) v part) under) (aim-settled d o)
+      ∙ visit-split n under (val (d .cands)) (aimTo (d .target)) part c (val (br .rest)) (settled-to (d .target)) some (not-none (val (d .cands)) z) c-is (br .less)
+
+  got-y : y ≡ getD ss (at + 1) noSlot
+  got-y = sym (ap (λ (l : List Slot). getD l (at + 1) noSlot) (br .slots) ∙ getD-set-same mid (at + 1) y noSlot (lt-length-set sl at x deep))
+
+  got-x : x ≡ getD ss at noSlot
+  got-x =
+      sym (ap (λ (l : List Slot). getD l at noSlot) (br .slots) ∙ getD-set-other mid (at + 1) at y noSlot (λ v. omega arith)
+      ∙ getD-set-same sl at x noSlot (omega (arith, deep)))
+
+  x-start : x .start ≡ d .start
+  x-start = takes-start d (br .rest) c
+
+  s-below : stackOf ss at us (d .start) ≡ under
+  s-below =
+      ap (λ (l : List Slot). stackOf l at us (d .start)) (br .slots)
+      ∙ stack-slots mid (at + 1) y at us (d .start) (omega arith) ∙ stack-slots sl at x at us (d .start) (omega arith)
+      ∙ stack-terms n sl at us ts (d .start) rest (split-front c (d .start) end ts us (br .ones) start fits (br .split))
+
+  s-x : stackOf ss (at + 1) us (d .start + br .ones) ≡ beside
+  s-x =
+      stack-at ss (at + 1) us (d .start + br .ones) at refl x got-x
+      ∙ ap₂ (λ (u : Node) (v : List Node). u ∷ v)
+      (node-is (ap val (takes-cands d (br .rest) c)) (takes-aim d (br .rest) c (br .best .small))
+      (ap (λ (j : ℕ). slice j (d .start + br .ones) us) x-start ∙ split-ones c (d .start) end ts us (br .ones) start fits (br .split)))
+      (ap (stackOf ss at us) x-start ∙ s-below)
+
+  s-y : stackOf ss (depth + 1) us end ≡ node (val (br .rest)) (aimTo (d .target)) (slice (d .start + br .ones) end us) ∷ beside
+  s-y =
+      stack-at ss (depth + 1) us end (at + 1) (omega arith) y got-y
+      ∙ ap₂ (λ (u : Node) (v : List Node). u ∷ v) (ap (λ (v : Aim). node (val (br .rest)) v (slice (d .start + br .ones) end us)) (aim-settled d o)) s-x
+
+  pub halves-stack : Stacked (stackOf ss (depth + 1) us end) halved
+  halves-stack =
+      subst (λ (st : List Node). Stacked st halved) (sym s-y)
+      (more (split-zeros c (d .start) end ts us (br .ones) start fits (br .split)) (stacked-same beside))
+
+  pub halves-laid : Laid n ss (depth + 1) end
+  halves-laid =
+      let low : Laid n ss at (d .start) =
+      subst (λ (l : List Slot). Laid n l at (d .start)) (sym (br .slots))
+      (sound-slots n mid (at + 1) y at (d .start) (omega arith) (sound-slots n sl at x at (d .start) (omega arith) rest)) in
+      let high : Laid n ss (at + 1) (d .start + br .ones) =
+      sound-at n ss (at + 1) (d .start + br .ones) at refl x got-x (omega (arith, x-start)) (takes-aimed d (br .rest) c (br .less) c-in n aimed c-lt)
+      (subst (Laid n ss at) (sym x-start) low) in
+      sound-at n ss (depth + 1) end (at + 1) (omega arith) y got-y (split-fits c (d .start) end ts us (br .ones) start fits (br .split))
+      (leaves-aimed d (br .rest) c (br .less) c-in n aimed (br .ones)) high
 
 -- over n columns: a stack of `depth` nodes, whose newest set ends at `end`; the newest node's slot d, at the place `at`
 module _ (n : ℕ) (sl : List Slot) (ts : List Term) (depth end at : ℕ) (k : depth ≡ at + 1) (d : Slot) (e : d ≡ getD sl at noSlot)
@@ -113,7 +203,7 @@ module _ (n : ℕ) (sl : List Slot) (ts : List Term) (depth end at : ℕ) (k : d
     drop-laid = subst (Laid n sl at) q rest-laid
 
   module _ (fits : end ≤ length ts) (q : d .start ≢ end) where
-    some : 0 < length topSet
+    pub some : 0 < length topSet
     some = omega (arith, length-slice (d .start) end ts fits, top .start, q)
 
     -- rule 3: no candidates, and the rotation on the target is due
@@ -158,87 +248,14 @@ module _ (n : ℕ) (sl : List Slot) (ts : List Term) (depth end at : ℕ) (k : d
 
     -- rule 4: the side with the column stays in the node's place, the side without runs first
     module _ (o : owing d ≡ false) (z : val (d .cands) ≢ 0) (wide : n + 1 ≤ length sl) (ss : List Slot) (us : List Term) (br : Branched d at end ts us sl ss) where
-      abbrev c : ℕ
-      c = br .column
-
-      ok : (best n (val (d .cands)) topSet .0 < n) × (bit (val (d .cands)) (best n (val (d .cands)) topSet .0) ≡ true)
-      ok = best-ok n (val (d .cands)) topSet top-cands (not-none (val (d .cands)) z)
-
-      c-is : c ≡ best n (val (d .cands)) topSet .0
-      c-is = br .best .is n top-cands
-
-      c-lt : c < n
-      c-lt = subst (λ (j : ℕ). j < n) (sym c-is) (ok .0)
-
-      c-in : bit (val (d .cands)) c ≡ true
-      c-in = ap (bit (val (d .cands))) c-is ∙ ok .1
-
-      abbrev x : Slot
-      x = takes d (br .rest) c
-
-      abbrev y : Slot
-      y = leaves d (br .rest) (br .ones)
-
-      abbrev pub withSide : List Node
-      withSide = node (val (br .rest)) (aimWith (aimTo (d .target)) c) (side true c topSet) ∷ below
-
-      abbrev pub halved : List Node
-      halved = node (val (br .rest)) (aimTo (d .target)) (side false c topSet) ∷ withSide
-
-      pub branch-leads : Leads n (stackOf sl depth ts end) [] halved
-      branch-leads =
-          by-visit _
-          (ap (λ (v : Aim). visit n (node (val (d .cands)) v topSet) below) (aim-settled d o)
-          ∙ visit-split n below (val (d .cands)) (aimTo (d .target)) topSet c (val (br .rest)) (settled-to (d .target)) some (not-none (val (d .cands)) z) c-is (br .less))
-
-      abbrev mid : List Slot
-      mid = set sl at x
-
-      deep : at + 1 < length sl
+      pub deep : at + 1 < length sl
       deep = omega (arith, top-more z)
 
-      got-y : y ≡ getD ss (at + 1) noSlot
-      got-y = sym (ap (λ (l : List Slot). getD l (at + 1) noSlot) (br .slots) ∙ getD-set-same mid (at + 1) y noSlot (lt-length-set sl at x deep))
+      pub branch-leads : Leads n (stackOf sl depth ts end) [] (halved n sl ts depth end at k d top-aimed top-start rest-laid fits top-cands o z deep ss us br)
+      branch-leads = by-visit _ (halves-visit n sl ts depth end at k d top-aimed top-start rest-laid fits top-cands o z deep ss us br some)
 
-      got-x : x ≡ getD ss at noSlot
-      got-x =
-          sym (ap (λ (l : List Slot). getD l at noSlot) (br .slots) ∙ getD-set-other mid (at + 1) at y noSlot (λ v. omega arith)
-          ∙ getD-set-same sl at x noSlot (omega (arith, deep)))
-
-      x-start : x .start ≡ d .start
-      x-start = takes-start d (br .rest) c
-
-      s-below : stackOf ss at us (d .start) ≡ below
-      s-below =
-          ap (λ (l : List Slot). stackOf l at us (d .start)) (br .slots)
-          ∙ stack-slots mid (at + 1) y at us (d .start) (omega arith) ∙ stack-slots sl at x at us (d .start) (omega arith)
-          ∙ stack-terms n sl at us ts (d .start) rest-laid (split-front c (d .start) end ts us (br .ones) (top .start) fits (br .split))
-
-      s-x : stackOf ss (at + 1) us (d .start + br .ones) ≡ withSide
-      s-x =
-          stack-at ss (at + 1) us (d .start + br .ones) at refl x got-x
-          ∙ ap₂ (λ (u : Node) (v : List Node). u ∷ v)
-          (node-is (ap val (takes-cands d (br .rest) c)) (takes-aim d (br .rest) c (br .best .small))
-          (ap (λ (j : ℕ). slice j (d .start + br .ones) us) x-start ∙ split-ones c (d .start) end ts us (br .ones) (top .start) fits (br .split)))
-          (ap (stackOf ss at us) x-start ∙ s-below)
-
-      s-y : stackOf ss (depth + 1) us end ≡ node (val (br .rest)) (aimTo (d .target)) (slice (d .start + br .ones) end us) ∷ withSide
-      s-y =
-          stack-at ss (depth + 1) us end (at + 1) (omega arith) y got-y
-          ∙ ap₂ (λ (u : Node) (v : List Node). u ∷ v) (ap (λ (v : Aim). node (val (br .rest)) v (slice (d .start + br .ones) end us)) (aim-settled d o)) s-x
-
-      pub branch-stack : Stacked (stackOf ss (depth + 1) us end) halved
-      branch-stack =
-          subst (λ (st : List Node). Stacked st halved) (sym s-y)
-          (more (split-zeros c (d .start) end ts us (br .ones) (top .start) fits (br .split)) (stacked-same withSide))
+      pub branch-stack : Stacked (stackOf ss (depth + 1) us end) (halved n sl ts depth end at k d top-aimed top-start rest-laid fits top-cands o z deep ss us br)
+      branch-stack = halves-stack n sl ts depth end at k d top-aimed top-start rest-laid fits top-cands o z deep ss us br
 
       pub branch-laid : Laid n ss (depth + 1) end
-      branch-laid =
-          let under : Laid n ss at (d .start) =
-          subst (λ (l : List Slot). Laid n l at (d .start)) (sym (br .slots))
-          (sound-slots n mid (at + 1) y at (d .start) (omega arith) (sound-slots n sl at x at (d .start) (omega arith) rest-laid)) in
-          let beside : Laid n ss (at + 1) (d .start + br .ones) =
-          sound-at n ss (at + 1) (d .start + br .ones) at refl x got-x (omega (arith, x-start)) (takes-aimed d (br .rest) c (br .less) c-in n top-aimed c-lt)
-          (subst (Laid n ss at) (sym x-start) under) in
-          sound-at n ss (depth + 1) end (at + 1) (omega arith) y got-y (split-fits c (d .start) end ts us (br .ones) (top .start) fits (br .split))
-          (leaves-aimed d (br .rest) c (br .less) c-in n top-aimed (br .ones)) beside
+      branch-laid = halves-laid n sl ts depth end at k d top-aimed top-start rest-laid fits top-cands o z deep ss us br
