@@ -30,3 +30,4 @@ pub mod Chain
 pub mod Cases
 pub mod Scanning
 pub mod Steps
+pub mod Ceiling

@@ -41,3 +41,4 @@ pub mod Budget
 pub mod Order
 pub mod Left
 pub mod Shortcuts
+pub mod Tallies

@@ -49,3 +49,24 @@ clampQubits cap = max 1 (min cap maxColumns)
 
 abbrev pub clampTerms : ℕ → ℕ
 clampTerms cap = max 1 cap
+
+-- ---- the plain engine, which writes every resynthesis to its end
+
+-- the gates that it takes, and the wires of one block
+abbrev pub plainGates : ℕ
+plainGates = 256
+
+abbrev pub plainColumns : ℕ
+plainColumns = 32
+
+-- a walk: for each of 768 terms 31 CNOTs and a rotation of two gates
+abbrev pub walkGates : ℕ
+walkGates = 25344
+
+-- a closing map: 32 rows with 32 additions each
+abbrev pub closingGates : ℕ
+closingGates = 1024
+
+-- the gates of one resynthesis: 768 * 31 + 2 * 768 of its walk, 32 ^ 2 of its closing map, 32 x
+abbrev pub wholeGates : ℕ
+wholeGates = 26400

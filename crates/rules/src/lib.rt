@@ -21,6 +21,13 @@ pub const STEP_WIDTH: usize = 2;
 
 pub const GATE_TERMS: usize = 3;
 
+// The plain engine: the gates that it takes, the wires of one block, and the gates of one resynthesis: 768 * 31 + 2 * 768 + 32 * 32 + 32.
+pub const PLAIN_GATES: usize = 256;
+
+pub const PLAIN_COLUMNS: usize = 32;
+
+pub const WHOLE_GATES: usize = 26400;
+
 // The fragment's codes.
 pub const CODE_X: u32 = 1;
 
@@ -50,10 +57,13 @@ pub struct Fixed {
     pub termwidth: usize,
     pub stepwidth: usize,
     pub gateterms: usize,
+    pub plaingates: usize,
+    pub plaincolumns: usize,
+    pub wholegates: usize,
 }
 
 pub fn limits() -> Fixed
-    ensures { λ r. ⌜ r ≡ record { width = Limits.width; gates = Limits.maxGates; wires = Limits.maxWires; bits = Limits.maxBits; columns = Limits.maxColumns; termwidth = Limits.termWidth; stepwidth = Limits.stepWidth; gateterms = Limits.gateTerms } ⌝ }
+    ensures { λ r. ⌜ r ≡ record { width = Limits.width; gates = Limits.maxGates; wires = Limits.maxWires; bits = Limits.maxBits; columns = Limits.maxColumns; termwidth = Limits.termWidth; stepwidth = Limits.stepWidth; gateterms = Limits.gateTerms; plaingates = Limits.plainGates; plaincolumns = Limits.plainColumns; wholegates = Limits.wholeGates } ⌝ }
 {
     Fixed {
         width: GATE_WIDTH,
@@ -64,5 +74,8 @@ pub fn limits() -> Fixed
         termwidth: TERM_WIDTH,
         stepwidth: STEP_WIDTH,
         gateterms: GATE_TERMS,
+        plaingates: PLAIN_GATES,
+        plaincolumns: PLAIN_COLUMNS,
+        wholegates: WHOLE_GATES,
     }
 }
