@@ -294,7 +294,7 @@ pub fn refused(number: u8, place: usize, field: u8) -> Verdict
 }
 
 // The first n gates, in list order.
-fn check_gates(list: &[i32], wires: usize, bits: usize, n: usize) -> Verdict
+pub fn check_gates(list: &[i32], wires: usize, bits: usize, n: usize) -> Verdict
     requires { ⌜ width * n ≤ length (now list) ⌝ }
     ensures { λ r. ⌜ verdictOf r ≡ Refusals.faultsFrom (now (list .entry)) wires bits n 0 ⌝ }
 {
