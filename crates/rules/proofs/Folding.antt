@@ -64,6 +64,13 @@ begins-absorb : (o : Op) (b : Block) → Begins (wiresOf (entered o (b .rows))) 
 unfolding absorb
 begins-absorb o b = begins-same (sym (wires-rows o (entered o (b .rows))))
 
+-- a gate changes rows, and adds none but those of the wires that it joins
+pub absorb-rows : (o : Op) (b : Block) → length (absorb o b .rows) ≡ length (entered o (b .rows))
+unfolding absorb
+absorb-rows o b =
+    let rs : List Row = entered o (b .rows) in
+    sym (length-map (rowsBy o rs) (λ r. r .wire)) ∙ ap length (wires-rows o rs) ∙ length-map rs (λ r. r .wire)
+
 begins-fold : (os : List Op) (b : Block) → Begins (wiresOf (b .rows)) (wiresOf (fold os b .rows))
 unfolding fold
 begins-fold [] b = begins-same refl

@@ -1,15 +1,28 @@
 -- The scan one gate at a time, as a loop makes it: what is done so far, with what the rest gives, is what the whole gives.
 use mathlib.Core.Path.{_≡_, refl, ap, _∙_}
-use mathlib.Core.Bool.{Bool, true, false, cond}
+use mathlib.Core.Bool.{Bool, true, false, not, _&&_, cond}
 use mathlib.Core.List.{List, [], _∷_, _++_, append-assoc, append-nil}
-use Prim.Native.Nat.{ℕ, zero, suc, _+_}
+use Prim.Native.Nat.{ℕ, zero, suc, _+_, _≤_}
 use native.Mathlib.Omega.{arith}
+use lib.ListN.{length}
+use lib.Dec.{leb}
+use borrow.Author.Tests.{leb-true}
 use Rattle.rules.specs.Gate.{Gate}
-use Rattle.rules.specs.Meaning.{op}
-use Rattle.rules.specs.Fold.{empty}
+use Rattle.rules.specs.Meaning.{Op, op, opaque}
+use Rattle.rules.specs.Fold.{Block, empty, entered, absorb}
 use Rattle.rules.specs.Synth.{blockOf}
 use Rattle.rules.specs.Plan.{Plan}
-use Rattle.rules.specs.Scan.{takes, Piece, copied, block, closed, cut, Writer, chosen, replaces, Result, finish}
+use Rattle.rules.specs.Scan.{roomy, takes, Piece, copied, block, closed, cut, Writer, chosen, replaces, Result, finish}
+use Rattle.rules.proofs.Bits.{and-left, and-right}
+use Rattle.rules.proofs.Folding.{absorb-rows}
+
+-- a block that takes a gate stays within the qubit cap
+pub takes-narrow : (p : Plan) (o : Op) (b : Block) → takes p o b ≡ true → length (absorb o b .rows) ≤ p .qubits
+unfolding takes
+takes-narrow p o b e =
+    let few : Bool = leb (length (entered o (b .rows))) (p .qubits) in
+    let h = and-left few (roomy (p .terms) o b) (and-right (not (opaque o)) (few && roomy (p .terms) o b) e) in
+    omega (arith, absorb-rows o b, leb-true (length (entered o (b .rows))) (p .qubits) h)
 
 -- nothing yet
 abbrev pub nothing : Result
