@@ -59,7 +59,7 @@ module _ (names hs : List ℕ) (v n : ℕ) (ts : List Term) (ln : length names �
   abbrev pub begun : List ℕ
   begun = held walked (units n 0)
 
-  synth-parts : synth whole ≡ withSteps (closing begun hs) (λ c. emit names (walked ++ c) ++ flipsFrom names v n 0)
+  pub synth-parts : synth whole ≡ withSteps (closing begun hs) (λ c. emit names (walked ++ c) ++ flipsFrom names v n 0)
   unfolding synth
   synth-parts =
       let row : ℕ → Row = rowAt names hs v in
@@ -79,7 +79,7 @@ module _ (names hs : List ℕ) (v n : ℕ) (ts : List Term) (ln : length names �
       ∙ ap (λ (l : List Gate). l ++ flipsFrom names v n 0) (emit-append names walked c)
       ∙ append-assoc (emit names walked) (emit names c) (flipsFrom names v n 0)
 
-  unmade : closing begun hs ≡ none → synth whole ≡ none
+  pub unmade : closing begun hs ≡ none → synth whole ≡ none
   unmade f = synth-parts ∙ ap (λ (o : Option (List Step)). withSteps o (λ c. emit names (walked ++ c) ++ flipsFrom names v n 0)) f
 
   closed : (gs : List Gate) → synth whole ≡ some gs → (o : Option (List Step)) → closing begun hs ≡ o → (c : List Step) × (closing begun hs ≡ some c)
