@@ -21,6 +21,7 @@ use Rattle.rules.proofs.Bits.{split}
 use Rattle.rules.proofs.Reading.{from-append, from-length}
 use Rattle.rules.proofs.Accepting.{fit-at}
 use Rattle.rules.proofs.Bounds.{fold-snoc, length-terms}
+use Rattle.rules.proofs.Scanning.{takes-narrow}
 use Rattle.terms.specs.Terms.{termsOf}
 use Rattle.gate.specs.Writing.{gateOf}
 use Rattle.gate.specs.Reading.{Reads}
@@ -85,6 +86,13 @@ folded-next l i j h =
     ap blockOf (run-next l i j h)
     ∙ ap (λ (os : List Op). Fold.fold os Fold.empty) (map-snoc (run l i j) (gateAt l j))
     ∙ fold-snoc (map op (run l i j)) (op (gateAt l j)) Fold.empty
+
+-- no wire, and then within the qubit cap for as long as gates are taken
+pub narrow-none : (p : Plan) (l : List ℤ) (i : ℕ) → length (folded l i i .rows) ≤ p .qubits
+narrow-none p l i = rw (folded-none l i) (omega arith)
+
+pub narrow-next : (p : Plan) (l : List ℤ) (i j : ℕ) → i ≤ j → takes p (op (gateAt l j)) (folded l i j) ≡ true → length (folded l i (j + 1) .rows) ≤ p .qubits
+narrow-next p l i j h e = rw (folded-next l i j h) (takes-narrow p (op (gateAt l j)) (folded l i j) e)
 
 -- three terms a gate at most
 folded-terms : (l : List ℤ) (i j : ℕ) → length (folded l i j .terms) ≤ 3 * (j - i)

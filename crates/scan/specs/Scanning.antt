@@ -82,11 +82,12 @@ pub record Foldable (p : Plan) (l : List ℤ) (i : ℕ) (table names rows room :
   pub clear : Clear l table room
   pub wide : Wide names rows
 
--- the block took the gates up to the run's end, and can't take the next
+-- the block took the gates up to the run's end within the qubit cap, and can't take the next
 pub record Stops (p : Plan) (l : List ℤ) (i : ℕ) (r : Run) (table names rows room : List ℕ) : Type 0 where
   pub onward : i ≤ r .end
   pub inside : r .end ≤ gatesIn l
   pub holds : Holds (blockOf (run l i (r .end))) (r .block) table names rows room
+  pub narrow : length (blockOf (run l i (r .end)) .rows) ≤ p .qubits
   pub cuts : cut p [] (rest l i) ≡ cut p (run l i (r .end)) (rest l (r .end))
   pub full : r .end < gatesIn l → takes p (op (gateAt l (r .end))) (blockOf (run l i (r .end))) ≡ false
 

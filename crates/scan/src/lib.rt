@@ -74,7 +74,7 @@ pub fn fold_run(
 }
 
 // How many heads stand at the front of a step room, which is free while a block is folded.
-fn heads_in(n: usize) -> usize
+pub fn heads_in(n: usize) -> usize
     ensures { λ r. ⌜ r ≡ cond (ltb n mostHeads) n mostHeads ⌝ }
 {
     if n < HEADS { n } else { HEADS }
@@ -122,7 +122,7 @@ fn close(
 }
 
 // The gate at `i`, copied behind the m gates of the output.
-fn copy_gate(list: &[i32], i: usize, out: &mut [i32], m: usize)
+pub fn copy_gate(list: &[i32], i: usize, out: &mut [i32], m: usize)
     requires { ⌜ Copyable (now list) i (now out) m ⌝ }
     ensures { λ r. ⌜ made (now (out .exit)) (suc m) ≡ made (now (out .entry)) m ++ numbers (gateAt (now (list .entry)) i) ⌝ }
 {
@@ -135,7 +135,7 @@ fn copy_gate(list: &[i32], i: usize, out: &mut [i32], m: usize)
 }
 
 // A gate more, copied outside any block.
-fn copied(s: Tally) -> Tally
+pub fn copied(s: Tally) -> Tally
     requires { ⌜ Low s ⌝ }
     ensures { λ r. ⌜ r ≡ record { at = s .at + 1; gates = s .gates + 1; blocks = s .blocks; replaced = s .replaced } ⌝ }
 {
@@ -148,7 +148,7 @@ fn copied(s: Tally) -> Tally
 }
 
 // A block more, which ends at `end`.
-fn closed(s: Tally, end: usize, f: Flushed) -> Tally
+pub fn closed(s: Tally, end: usize, f: Flushed) -> Tally
     requires { ⌜ Low s × (f .gates ≤ maxGates) ⌝ }
     ensures { λ r. ⌜ r ≡ record { at = end; gates = s .gates + f .gates; blocks = s .blocks + 1; replaced = s .replaced + cond (f .replaced) 1 0 } ⌝ }
 {

@@ -19,7 +19,7 @@ use Rattle.block.proofs.Codes.{op-read}
 use Rattle.absorb.proofs.Absorbing.{absorb-ready}
 use Rattle.taking.proofs.Taking.{ask-ready}
 use Rattle.scan.specs.Scanning.{run, rest}
-use Rattle.scan.proofs.Folding.{run-none, folded, cut-on, start, wired, spare, spare-low, asked, next}
+use Rattle.scan.proofs.Folding.{run-none, folded, narrow-none, narrow-next, cut-on, start, wired, spare, spare-low, asked, next}
 use Rattle.scan.proofs.fold_run.Statement.{statement}
 use Rattle.scan.proofs.fold_run.Tie as tie
 
@@ -27,7 +27,7 @@ abbrev Inv-loop : tie.InvT-loop
 Inv-loop list start table₀ names₀ rows₀ room₀ plan heads₀ n b₀ i₀ table names rows room heads b i =
     (start ≤ i) × (i ≤ n) × (Holds (folded list start i) b table names rows room) × (cut (view plan) [] (rest list start) ≡ cut (view plan) (run list start i) (rest list i))
     × (length table ≡ length table₀) × (length names ≡ length names₀) × (length rows ≡ length rows₀) × (length room ≡ length room₀)
-    × (length heads ≡ length heads₀) × Indexed heads room (b .terms)
+    × (length heads ≡ length heads₀) × Indexed heads room (b .terms) × (length (folded list start i .rows) ≤ view plan .qubits)
 
 abbrev μ-loop : tie.MeasureT-loop
 μ-loop list start table₀ names₀ rows₀ room₀ plan heads₀ n b₀ i₀ table names rows room heads b i = n - i
@@ -76,7 +76,7 @@ loop-holds : tie.Need-loop-holds Inv-loop μ-loop
 loop-holds c =
     let s = c .before .before .before .before .before .before in
     let a = s .args in
-    (omega arith, s .pre .0 .inside, start (a .list .now) (a .table .now) (a .names .now) (a .rows .now) (a .room .now) (a .start) (c .empty .result) (c .empty .ensures) (s .pre .0 .clear) (s .pre .0 .wide), rw (run-none (a .list .now) (a .start)) refl, refl, refl, refl, refl, refl, rw (c .empty .ensures .terms) (indexed-none _ _ (s .pre .1 .some) (s .pre .1 .few)))
+    (omega arith, s .pre .0 .inside, start (a .list .now) (a .table .now) (a .names .now) (a .rows .now) (a .room .now) (a .start) (c .empty .result) (c .empty .ensures) (s .pre .0 .clear) (s .pre .0 .wide), rw (run-none (a .list .now) (a .start)) refl, refl, refl, refl, refl, refl, rw (c .empty .ensures .terms) (indexed-none _ _ (s .pre .1 .some) (s .pre .1 .few)), narrow-none (view (a .plan)) (a .list .now) (a .start))
 
 read-requires : tie.Need-read-requires Inv-loop μ-loop
 read-requires c κs = omega arith
@@ -106,7 +106,7 @@ same-length-5 c = round (met (c .before)) .loop .inv .8
 returns : tie.Need-returns Inv-loop μ-loop
 returns c =
     let i = round (met (c .before)) .loop .inv in
-    record { onward = i .0; inside = i .1; holds = i .2; cuts = i .3; full = λ h. answer (c .before) ∙ not-true _ (c .if1 .taken) }
+    record { onward = i .0; inside = i .1; holds = i .2; narrow = i .10; cuts = i .3; full = λ h. answer (c .before) ∙ not-true _ (c .if1 .taken) }
 
 absorb-requires : tie.Need-absorb-requires Inv-loop μ-loop
 absorb-requires c κs =
@@ -145,6 +145,7 @@ loop-again c =
       r .kept .1 .1 .1 .1 .1 .0 ∙ l .inv .7,
       r .kept .1 .1 .1 .1 .1 .1 .0 ∙ l .inv .8,
       r .ensures .indexed,
+      narrow-next (view (a .plan)) (a .list .now) (a .start) (l .i) (l .inv .0) (answer (e .before) ∙ not-false _ (e .if1 .left)),
     )
 
 same-length-6 : tie.Need-same-length-6 Inv-loop μ-loop
@@ -164,7 +165,7 @@ same-length-10 c = (c .before) .loop .inv .8
 
 -- the list ends
 returns-2 : tie.Need-returns-2 Inv-loop μ-loop
-returns-2 c = let i = (c .before) .loop .inv in record { onward = i .0; inside = i .1; holds = i .2; cuts = i .3; full = λ h. absurd (omega arith) }
+returns-2 c = let i = (c .before) .loop .inv in record { onward = i .0; inside = i .1; holds = i .2; narrow = i .10; cuts = i .3; full = λ h. absurd (omega arith) }
 
 pub fold-run-spec : {M : Type 1} → statement M
 fold-run-spec =
