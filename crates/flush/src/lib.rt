@@ -31,7 +31,7 @@ pub struct Flushed {
 }
 
 // The total isn't higher, and the pair of counts is smaller, CNOT and CZ first.
-fn cheaper(b: Budget) -> bool
+pub fn cheaper(b: Budget) -> bool
     ensures { λ r. ⌜ r ≡ keeps (Counted.view b) ⌝ }
 {
     (b.all <= b.maxall) & ((b.two < b.maxtwo) | ((b.two == b.maxtwo) & (b.all < b.maxall)))
