@@ -46,7 +46,7 @@ isDone : Paper.Answer → Bool
 isDone (Paper.refusal r) = false
 isDone (Paper.done c) = true
 
-not-done : (r : Refusals.Refusal) (c : Paper.Counts) → Paper.refusal r ≡ Paper.done c → false ≡ true
+pub not-done : (r : Refusals.Refusal) (c : Paper.Counts) → Paper.refusal r ≡ Paper.done c → false ≡ true
 unfolding isDone
 not-done r c e = ap isDone e
 

@@ -139,7 +139,7 @@ module _ (l : List ℤ) (w b : ℕ) (out : List ℤ) (terms steps : List ℕ) (e
 pub clamped : (q t : ℕ) → planOf q t .qubits ≤ maxColumns
 clamped q t = omega arith
 
-over-is : {A : Type 0} (new room : List A) (n : ℕ) → length new ≡ n → new ++ drop n room ≡ Paper.over new room
+pub over-is : {A : Type 0} (new room : List A) (n : ℕ) → length new ≡ n → new ++ drop n room ≡ Paper.over new room
 over-is {A} new room n e = ap (λ (k : ℕ). new ++ drop k room) (sym e)
 
 module _ (l : List ℤ) (q t : ℕ) (c : Counts) (new : List ℤ) (terms′ steps′ : List ℕ) (r : Rewrites (writerOf (planOf q t)) (planOf q t) l c new terms′ steps′) where
