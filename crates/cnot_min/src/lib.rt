@@ -37,7 +37,7 @@ pub enum Answer {
 }
 
 // The counts of a list and of the gates made of it.
-fn count(list: &[i32], made: &[i32], s: Tally) -> Counts
+pub fn count(list: &[i32], made: &[i32], s: Tally) -> Counts
     ensures { λ r. ⌜ r ≡ record { gatesin = gatesIn (now (list .entry)); gatesout = s .gates; twosin = twos (gatesOf (now (list .entry))); twosout = twos (gatesOf (now (made .entry))); tin = ts (gatesOf (now (list .entry))); tout = ts (gatesOf (now (made .entry))); blocks = s .blocks; replaced = s .replaced } ⌝ }
 {
     Counts {
