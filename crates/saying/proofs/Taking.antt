@@ -67,3 +67,19 @@ module _ (P : List ℕ → Type 0) (judge : Judge) (next : Next) (text : List �
       split (ltb listBytes (length text))
       (λ e. absurd (true≢false (rw e at f)))
       (λ e. rw e (read-kept (readText listGates text) refl (rw e at f)))
+
+-- ---- a judge that accepts only what another accepts: where it doesn't refuse, the answer is the other's
+
+module _ (strict judge : Judge) (next : Next) (within : (h : Head) (ns : List ℤ) → strict h ns ≡ accepted → judge h ns ≡ accepted) where
+  judged-same : (h : Head) (ns : List ℤ) (v : Verdict) → strict h ns ≡ v → judged (next h ns) v .refused ≡ false → judged (next h ns) v ≡ judgedBy judge next h ns
+  judged-same h ns (refused r) x f = absurd (true≢false f)
+  judged-same h ns accepted x f = rw (within h ns x)
+
+  read-same : (r : Read) → readAs (judgedBy strict next) r .refused ≡ false → readAs (judgedBy strict next) r ≡ readAs (judgedBy judge next) r
+  read-same (malformed k) f = refl
+  read-same (many k) f = refl
+  read-same (read h ns) f = judged-same h ns (strict h ns) refl f
+
+  pub answer-same : (text : List ℕ) → answerBy (judgedBy strict next) text .refused ≡ false → answerBy (judgedBy strict next) text ≡ answerBy (judgedBy judge next) text
+  unfolding answerBy
+  answer-same text f = split (ltb listBytes (length text)) (λ t. rw t) (λ t. rw t (read-same (readText listGates text) (rw t at f)))
