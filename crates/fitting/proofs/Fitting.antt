@@ -36,7 +36,8 @@ made-size : (gs : List Gate) (new : Result) → counts gs new .gatesOut ≡ leng
 unfolding counts
 made-size gs new = refl
 
-abbrev asVerdict : Pass.Answer → Verdict
+-- a refusal is read back from an answer
+abbrev pub asVerdict : Pass.Answer → Verdict
 asVerdict (Pass.refusal r) = refused r
 asVerdict (Pass.done c) = accepted
 

@@ -1,5 +1,5 @@
 mod Few
-mod Fitting
+pub mod Fitting
 pub mod Each
 pub mod Unsaid
 pub mod Made

@@ -13,9 +13,11 @@ use Rattle.saying.specs.Answer.{answered, judged, checked}
 use Rattle.fitting.specs.Contracts.{Made}
 use Rattle.list.specs.Answer.{countNumbers, shortened}
 
+pub printed : (h : Head) (l : List ℤ) (c : Counts) (room′ : List ℤ) → Made h l c room′
+    → shortened h l ≡ answered (resultText h (take (width * c .gatesout) room′) (countNumbers (counted c)))
+unfolding shortened
+printed h l c room′ m = ap₂ (λ (ns : List ℤ) (k : Pass.Counts). answered (resultText h ns (countNumbers k))) (sym (m .numbers)) (sym (m .counts))
+
 pub shown : (h : Head) (l : List ℤ) (c : Counts) (room′ : List ℤ) → Made h l c room′
     → checked shortened h l ≡ answered (resultText h (take (width * c .gatesout) room′) (countNumbers (counted c)))
-unfolding shortened
-shown h l c room′ m =
-    ap (judged (shortened h l)) (m .is)
-    ∙ ap₂ (λ (ns : List ℤ) (k : Pass.Counts). answered (resultText h ns (countNumbers k))) (sym (m .numbers)) (sym (m .counts))
+shown h l c room′ m = ap (judged (shortened h l)) (m .is) ∙ printed h l c room′ m

@@ -77,7 +77,7 @@ module _ (text : List ℕ) (h : Head) (ns : List ℤ) (is : readText listGates t
 
 -- ---- a text
 
-text-kept : (text : List ℕ) → answer text .refused ≡ false → Kept text (answer text .text)
+pub text-kept : (text : List ℕ) → answer text .refused ≡ false → Kept text (answer text .text)
 unfolding answer
 text-kept text f = answer-kept (Kept text) exact shortened text (λ h ns is e g. accepted-kept text h ns is e) f
 

@@ -1,3 +1,3 @@
-mod Cases
-mod Keeping
-mod Answering
+pub mod Cases
+pub mod Keeping
+pub mod Answering

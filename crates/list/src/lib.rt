@@ -21,7 +21,7 @@ ghost use Rattle.list.specs.Answer as Paper;
 ghost use Rattle.list.specs.Contracts.{Lists};
 
 // The head as read, the new gates, and their counts.
-fn print(out: &mut [u8], head: Head, numbers: &[i32], c: Counts) -> Said
+pub fn print(out: &mut [u8], head: Head, numbers: &[i32], c: Counts) -> Said
     requires { ⌜ (answerBytes ≤ length (now out)) × (length (now numbers) ≤ width * listGates) ⌝ }
     requires { ⌜ Small c ⌝ }
     ensures { λ r. ⌜ Says (answered (resultText (headOf head) (now (numbers .entry)) (Paper.countNumbers (counted c)))) (now (out .entry)) r (now (out .exit)) ⌝ }
