@@ -1,0 +1,4 @@
+mod Cases
+mod Fitting
+mod Answering
+pub mod Keeping
