@@ -17,7 +17,7 @@ use Rattle.cnot_min.specs.declared.Answer.{Answer}
 use Rattle.cnot_min.specs.declared.Answer.the-variants.{Refused, Done}
 use Rattle.dilkovan.specs.Doors.{coded, Placed}
 
-placeIn : Paper.Answer → ℕ
+unfoldable pub placeIn : Paper.Answer → ℕ
 placeIn (Paper.refusal r) = r .place
 placeIn (Paper.done c) = 0
 

@@ -19,8 +19,11 @@ ghost use Rattle.trace.specs.Answer as Trace;
 ghost use Rattle.trace.specs.Contracts.{Traces};
 ghost use Rattle.pair.specs.Answer as Pair;
 ghost use Rattle.pair.specs.Contracts as Paired;
+ghost use Rattle.plain_list.specs.Answer as PlainList;
+ghost use Rattle.plain_list.specs.Contracts.{Plains};
 ghost use Rattle.dilkovan.specs.Doors.{coded, listed, Exports, ExportsText, Placed};
 ghost use Rattle.dilkovan.specs.Pairs.{codedPair, Blamed, ExportsAlike};
+ghost use Rattle.dilkovan.specs.Plain.{ExportsPlain};
 
 // 0 where it is done; else the refusal's field * 2^48 + its number * 2^32 + its place.
 fn code(a: Answer) -> u64
@@ -67,6 +70,40 @@ pub extern "C" fn dilkovan_cnot_min(
     ensures { λ r. ⌜ Exports (now (list .entry)) wires bits «qubit_cap» «term_cap» (now (out .entry)) (now (terms .entry)) (now (steps .entry)) (now (counts .entry)) r (now (out .exit)) (now (terms .exit)) (now (steps .exit)) (now (counts .exit)) ⌝ }
 {
     let a = cnot_min::cnot_min_with(list, wires, bits, qubit_cap, term_cap, out, terms, steps);
+    let Answer::Done(c) = a else {
+        return code(a);
+    };
+    store(c, counts);
+    0
+}
+
+// `plain::cnot_min_plain`, in the same way, with one room more.
+#[no_mangle]
+pub extern "C" fn dilkovan_plain(
+    list: &[i32],
+    wires: usize,
+    bits: usize,
+    qubit_cap: usize,
+    term_cap: usize,
+    out: &mut [i32],
+    terms: &mut [u64],
+    steps: &mut [u32],
+    whole: &mut [i32],
+    counts: &mut [u64; 8],
+) -> u64
+    ensures { λ r. ⌜ ExportsPlain (now (list .entry)) wires bits «qubit_cap» «term_cap» (now (out .entry)) (now (terms .entry)) (now (steps .entry)) (now (whole .entry)) (now (counts .entry)) r (now (out .exit)) (now (terms .exit)) (now (steps .exit)) (now (whole .exit)) (now (counts .exit)) ⌝ }
+{
+    let a = plain::cnot_min_plain(
+        list,
+        wires,
+        bits,
+        qubit_cap,
+        term_cap,
+        out,
+        terms,
+        steps,
+        whole,
+    );
     let Answer::Done(c) = a else {
         return code(a);
     };
@@ -188,4 +225,18 @@ pub extern "C" fn dilkovan_pair(
     let p = pair::pair(text, out);
     *length = p.length;
     flag(p.refused)
+}
+
+// `plain_list::plain_list`.
+#[no_mangle]
+pub extern "C" fn dilkovan_plain_list(
+    text: &[u8],
+    out: &mut [u8; ANSWER_BYTES],
+    length: &mut usize,
+) -> u64
+    ensures { λ r. ⌜ ExportsText PlainList.answer Plains (now (text .entry)) (now (out .entry)) r (now (out .exit)) (now (length .exit)) ⌝ }
+{
+    let q = plain_list::plain_list(text, out);
+    *length = q.length;
+    flag(q.refused)
 }
