@@ -22,6 +22,8 @@
  *   18 a negative line
  *   dilkovan_alike has of these 1 to 3, 6 to 9, 14 and 18, and besides: 16  a code above 9; 17  more than 128 wires
  *   dilkovan_pair has those of dilkovan_alike but 1 and 2, and besides 10 to 12 as for a list
+ *   dilkovan_plain has those of dilkovan_cnot_min, dilkovan_plain_list those of dilkovan_list, and both besides, straight after 3:
+ *   15  more than 256 gates, or a clamped qubit cap above 32
  *
  * In this order; 8 and 14 as the fields stand. The place is the gate's index from 0 for 6 to 9, 14, 18 and export's 13, the line's number from 1 for
  * 11, 12 of a list and 13 of a laboratory's text, and else 0. The field is 1, 2 or 3 for 8 and 14, the first of the gate's `first`, `second` and
@@ -61,6 +63,18 @@ uint64_t dilkovan_cnot_min(const int32_t *list, size_t list_length, size_t wires
                            int32_t *out, size_t out_length, uint64_t *terms, size_t terms_length, uint32_t *steps,
                            size_t steps_length, uint64_t counts[8]);
 
+/* The same by the plain engine, which has no budget: it writes every resynthesis to its end, in `whole`, and only then compares. It is for asking whether the budget decides anything
+ * (docs/BUDGET.md); it is slower, and takes up to DILKOVAN_PLAIN_GATES gates and a qubit cap that is, clamped, up to DILKOVAN_PLAIN_CAP.
+ *
+ * `whole` needs DILKOVAN_WHOLE numbers, whatever the list; else it is 5. Answers 0 when it is done: `out`, `terms`, `steps` and `counts` are then exactly as dilkovan_cnot_min leaves them for the same list, caps and rooms, the first
+ * DILKOVAN_WHOLE numbers of `whole` are 0, and nothing beyond them is written. Else it answers as dilkovan_cnot_min does, in the order 1, 2, 3, 15, 4, 5, then the gates, and writes nothing. */
+#define DILKOVAN_PLAIN_GATES 256
+#define DILKOVAN_PLAIN_CAP 32
+#define DILKOVAN_WHOLE (DILKOVAN_WIDTH * 26400)
+uint64_t dilkovan_plain(const int32_t *list, size_t list_length, size_t wires, size_t bits, size_t qubit_cap, size_t term_cap,
+                        int32_t *out, size_t out_length, uint64_t *terms, size_t terms_length, uint32_t *steps,
+                        size_t steps_length, int32_t *whole, size_t whole_length, uint64_t counts[8]);
+
 /* Do two lists of gates of codes 1 to 9, over the same wires and with no classical bits, act alike?
  *
  * Answers DILKOVAN_SAME when every setting of the wires goes to the same setting, and phases differ by one number common to all settings, modulo 8; else the
@@ -86,6 +100,10 @@ uint64_t dilkovan_alike(const int32_t *first, size_t first_length, const int32_t
  * no 0 behind them: the head, the new gates and the counts; or one line, "refused NUMBER PLACE FIELD". The rest of `out` is not written, nor is
  * the text. Its own tables are on the stack: 146,439 bytes was the deepest measured. */
 uint64_t dilkovan_list(const uint8_t *text, size_t text_length, uint8_t out[DILKOVAN_LIST_BYTES], size_t *length);
+
+/* The same by the plain engine, as `./dilkovan plain` does: what is printed is what dilkovan_list prints, or "refused 15 0 0" for a list that is too much for it, straight after 3. Its room for
+ * one resynthesis is on the stack: PLAINSTACK bytes was the deepest measured. */
+uint64_t dilkovan_plain_list(const uint8_t *text, size_t text_length, uint8_t out[DILKOVAN_LIST_BYTES], size_t *length);
 
 /* A laboratory's text, OpenQASM 2.0, as a list's text with the caps 128 and 512 and no counts; a list's text as a laboratory's; and a laboratory's text
  * with its circuit shortened at those caps. `out`, *length and the answer are those of dilkovan_list. The deepest stack measured:

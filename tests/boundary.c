@@ -81,22 +81,28 @@ typedef struct {
 
 static const uint64_t none[8];
 
-/* The answer is this one. Where it is 0, the counts are these and `out` begins with this result; a result that isn't given is only counted. */
-static void numbers(Call c, uint64_t answer, const int32_t *result, const uint64_t counts[8]) {
+/* The answer is this one. Where it is 0, the counts are these and `out` begins with this result; a result that isn't given is only counted. The plain engine gets a room
+ * for one resynthesis, by how many numbers it is more or fewer than that needs; the first engine none. */
+static void engine(Call c, const long *more, uint64_t answer, const int32_t *result, const uint64_t counts[8]) {
     size_t g = c.length / DILKOVAN_WIDTH, terms = DILKOVAN_TERMS(g), steps = DILKOVAN_STEPS(g);
     Room list = lend_filled(c.list, c.length * sizeof(int32_t));
     Room out = lend((size_t)((long)c.length + c.out) * sizeof(int32_t));
     Room term = lend((size_t)((long)terms + c.terms) * sizeof(uint64_t));
     Room step = lend((size_t)((long)steps + c.steps) * sizeof(uint32_t));
     Room count = lend(8 * sizeof(uint64_t));
-    uint64_t told = dilkovan_cnot_min(inside(list), c.length, c.wires, c.bits, c.qubit_cap, c.term_cap, inside(out), out.size / sizeof(int32_t),
-                                      inside(term), term.size / sizeof(uint64_t), inside(step), step.size / sizeof(uint32_t), inside(count));
+    Room whole = lend(more ? (size_t)((long)DILKOVAN_WHOLE + *more) * sizeof(int32_t) : 0);
+    uint64_t told = more ? dilkovan_plain(inside(list), c.length, c.wires, c.bits, c.qubit_cap, c.term_cap, inside(out), out.size / sizeof(int32_t),
+                                          inside(term), term.size / sizeof(uint64_t), inside(step), step.size / sizeof(uint32_t), inside(whole),
+                                          whole.size / sizeof(int32_t), inside(count))
+                         : dilkovan_cnot_min(inside(list), c.length, c.wires, c.bits, c.qubit_cap, c.term_cap, inside(out), out.size / sizeof(int32_t),
+                                             inside(term), term.size / sizeof(uint64_t), inside(step), step.size / sizeof(uint32_t), inside(count));
     calls++;
     if (told != answer) {
         printf("boundary: %s: answered %" PRIu64 " %" PRIu64 " %" PRIu64 "\n", c.name, DILKOVAN_NUMBER(told), DILKOVAN_PLACE(told), DILKOVAN_FIELD(told));
         exit(1);
     }
     settle(c.name, "the list", list, c.list, c.length * sizeof(int32_t), 0);
+    settle(c.name, "the room for one resynthesis", whole, NULL, 0, more && !answer ? DILKOVAN_WHOLE * sizeof(int32_t) : 0);
     if (answer) {
         settle(c.name, "out, of a refusal", out, NULL, 0, 0);
         settle(c.name, "terms, of a refusal", term, NULL, 0, 0);
@@ -115,6 +121,10 @@ static void numbers(Call c, uint64_t answer, const int32_t *result, const uint64
     settle(c.name, "terms", term, NULL, 0, terms * sizeof(uint64_t));
     settle(c.name, "steps", step, NULL, 0, steps * sizeof(uint32_t));
     settle(c.name, "counts", count, result ? counts : found, sizeof found, 0);
+}
+
+static void numbers(Call c, uint64_t answer, const int32_t *result, const uint64_t counts[8]) {
+    engine(c, NULL, answer, result, counts);
 }
 
 static const int32_t three[] = {1, 0, 0, 0, 0, 9, 2, 0, 0, 0, 0, 7, 1, 0, 0, 0, 0, 8}; /* x0 t0 x0, of lines 9, 7 and 8 */
@@ -251,6 +261,102 @@ static void large(int32_t *list) {
     numbers(c, 0, NULL, none);
 }
 
+/* ---- the plain engine */
+
+static void plainly(Call c, long more, uint64_t answer, const int32_t *result, const uint64_t counts[8]) {
+    engine(c, &more, answer, result, counts);
+}
+
+/* The plain engine leaves what the first one leaves. */
+static void beside(Call c, long more) {
+    size_t g = c.length / DILKOVAN_WIDTH;
+    int32_t *out = malloc((c.length + 1) * sizeof *out);
+    uint64_t *terms = malloc((DILKOVAN_TERMS(g) + 1) * sizeof *terms), counts[8];
+    uint32_t *steps = malloc(DILKOVAN_STEPS(g) * sizeof *steps);
+    if (!out || !terms || !steps)
+        fail("malloc", "no memory");
+    if (dilkovan_cnot_min(c.list, c.length, c.wires, c.bits, c.qubit_cap, c.term_cap, out, c.length, terms, DILKOVAN_TERMS(g), steps, DILKOVAN_STEPS(g), counts))
+        fail(c.name, "the first engine refuses it");
+    plainly(c, more, 0, out, counts);
+    free(out), free(terms), free(steps);
+}
+
+/* Gates on 32 wires: t, random cnot, or cz, which fold the most terms. */
+static void fill(int32_t *list, size_t gates, int kind) {
+    uint32_t state = 7;
+    memset(list, 0, DILKOVAN_WIDTH * gates * sizeof *list);
+    for (size_t i = 0; i < gates; i++) {
+        int32_t *at = list + DILKOVAN_WIDTH * i;
+        state = state * 1664525 + 1013904223;
+        at[0] = kind == 0 ? 2 : kind == 1 ? 8 : 9;
+        at[1] = (int32_t)(i % 32);
+        if (kind)
+            at[2] = (at[1] + 1 + (int32_t)(state >> 20) % 31) % 32;
+        at[5] = (int32_t)i;
+    }
+}
+
+static void plain(int32_t *list) {
+    static const int32_t t[] = {2, 0, 0, 0, 0, 0}, bad[] = {99, 0, 0, 0, 0, 0};
+    static const uint64_t kept[8] = {1, 1, 0, 0, 1, 1, 1, 0};
+    Call c = {"plain: exact rooms", three, 18, 1, 0, 32, 512, 0, 0, 0};
+    plainly(c, 0, 0, one, three_counts);
+    c = (Call){"plain: longer rooms", three, 18, 1, 0, 32, 512, 9, 8, 7};
+    plainly(c, 5, 0, one, three_counts);
+    /* readings 16 to 21, by their numbers */
+    static const size_t caps[] = {33, 127, 128, 129, SIZE_MAX};
+    for (size_t i = 0; i < 5; i++) {
+        c = (Call){"plain, 16: a cap above 32", t, 6, 1, 0, caps[i], 512, 0, 0, 0};
+        plainly(c, 0, REFUSED(15, 0), NULL, none);
+    }
+    for (size_t cap = 0; cap < 3; cap++) {
+        c = (Call){"plain, 16: a cap of 0, 1 or 2", t, 6, 1, 0, cap, 512, 0, 0, 0};
+        plainly(c, 0, 0, t, kept);
+    }
+    c = (Call){"plain, 17: 15 before 4, 5 and the gates", bad, 6, 1, 0, 33, 512, -6, -9, -258};
+    plainly(c, -DILKOVAN_WHOLE, REFUSED(15, 0), NULL, none);
+    c = (Call){"plain, 17: 3 before 15", bad, 6, 4097, 0, 33, 512, -6, -9, -258};
+    plainly(c, -DILKOVAN_WHOLE, REFUSED(3, 0), NULL, none);
+    c = (Call){"plain: 1 before 3 and 15", three, 17, 4097, 0, 33, 512, 0, 0, 0};
+    plainly(c, 0, REFUSED(1, 0), NULL, none);
+    c = (Call){"plain: 4 before 5", three, 18, 1, 0, 32, 512, -1, -1, -1};
+    plainly(c, -1, REFUSED(4, 0), NULL, none);
+    c = (Call){"plain: 5 before the gates", bad, 6, 1, 0, 32, 512, 0, 0, 0};
+    plainly(c, -1, REFUSED(5, 0), NULL, none);
+    c = (Call){"plain: the gates", bad, 6, 1, 0, 32, 512, 0, 0, 0};
+    plainly(c, 0, REFUSED(6, 0), NULL, none);
+    c = (Call){"plain, 18 and 20: no gates, the room one number short", t, 0, 0, 0, 32, 512, 0, 0, 0};
+    plainly(c, -1, REFUSED(5, 0), NULL, none);
+    plainly(c, -DILKOVAN_WIDTH, REFUSED(5, 0), NULL, none);
+    plainly(c, -DILKOVAN_WHOLE, REFUSED(5, 0), NULL, none);
+    c = (Call){"plain, 19 and 20: no gates, all of the room ends as 0 and nothing beyond", t, 0, 0, 0, 32, 512, 0, 0, 0};
+    plainly(c, 0, 0, t, none);
+    plainly(c, 1, 0, t, none);
+    plainly(c, 3, 0, t, none);
+    c = (Call){"plain, 21: terms one short", t, 6, 1, 0, 32, 512, 0, -1, 0};
+    plainly(c, 0, REFUSED(5, 0), NULL, none);
+    c = (Call){"plain, 21: steps one short", t, 6, 1, 0, 32, 512, 0, 0, -1};
+    plainly(c, 0, REFUSED(5, 0), NULL, none);
+    /* 255 to 257 gates; the cnots take more additions than the step room has entries (21), the cz fold 768 terms (22) */
+    for (size_t gates = 255; gates < 258; gates++)
+        for (int kind = 0; kind < 3; kind++) {
+            fill(list, gates, kind);
+            c = (Call){"plain, 22 and 23: 255 to 257 gates on 32 wires", list, DILKOVAN_WIDTH * gates, 32, 0, 32, 512, 0, 0, 0};
+            if (gates > DILKOVAN_PLAIN_GATES)
+                plainly(c, 0, REFUSED(15, 0), NULL, none);
+            else
+                beside(c, 2);
+            c.qubit_cap = 7;
+            if (gates <= DILKOVAN_PLAIN_GATES)
+                beside(c, 0);
+        }
+    fill(list, MOST + 1, 0);
+    c = (Call){"plain: 15 for 65,536 gates", list, DILKOVAN_WIDTH * MOST, 32, 0, 32, 512, 0, 0, 0};
+    plainly(c, 0, REFUSED(15, 0), NULL, none);
+    c = (Call){"plain: 2 for one more", list, DILKOVAN_WIDTH * (MOST + 1), 32, 0, 33, 512, 0, 0, 0};
+    plainly(c, 0, REFUSED(2, 0), NULL, none);
+}
+
 /* ---- texts */
 
 typedef uint64_t (*Door)(const uint8_t *, size_t, uint8_t *, size_t *);
@@ -318,6 +424,28 @@ static void texts(void) {
     memset(bytes, 0, sizeof bytes);
     text("32,768 zeros", bytes, LONGEST, 1, "refused 11 1 0\n");
     text("10: 32,769 zeros", bytes, LONGEST + 1, 1, "refused 10 0 0\n");
+}
+
+/* Texts by the plain engine: what the list's door prints, or 15. */
+static void plain_texts(void) {
+    static char bytes[2 * DILKOVAN_LIST_BYTES];
+    static uint8_t out[DILKOVAN_LIST_BYTES + 1];
+#define SMALL "head 4\n32\n0\n32\n512\n"
+    call(dilkovan_plain_list, "plain text", SMALL "gates 2\n2 0 0 0 0\n2 0 0 0 0\n", 47, 0, SMALL "gates 1\n4 0 0 0 0\ncounts 8\n2\n1\n0\n0\n2\n0\n1\n1\n");
+    call(dilkovan_plain_list, "plain text, no bytes", bytes, 0, 1, "refused 11 1 0\n");
+    call(dilkovan_plain_list, "plain text, a cap of 33", "head 4\n1\n0\n33\n1\ngates 1\n99 0 0 0 0\n", 35, 1, "refused 15 0 0\n");
+    call(dilkovan_plain_list, "plain text, 3 before 15", "head 4\n4097\n0\n33\n1\ngates 0\n", 27, 1, "refused 3 0 0\n");
+    for (int gates = 255; gates < 258; gates++) {
+        size_t n = (size_t)sprintf(bytes, SMALL "gates %d\n", gates), size;
+        for (int i = 0; i < gates; i++)
+            n += (size_t)sprintf(bytes + n, i % 3 ? "8 %d %d 0 0\n" : "2 %d 0 0 0\n", i * 7 % 32, (i * 7 + 1 + i % 29) % 32);
+        if (dilkovan_list((const uint8_t *)bytes, n, out, &size))
+            fail("plain text", "the list's door refuses it");
+        out[size] = 0;
+        call(dilkovan_plain_list, "plain text, 255 to 257 gates", bytes, n, gates > 256, gates > 256 ? "refused 15 0 0\n" : (const char *)out);
+    }
+    memset(bytes, 0, sizeof bytes);
+    call(dilkovan_plain_list, "plain text, 32,769 zeros", bytes, LONGEST + 1, 1, "refused 10 0 0\n");
 }
 
 #define OPENING "OPENQASM 2.0;\ninclude \"qelib1.inc\";\n"
@@ -459,7 +587,9 @@ int main(void) {
         rooms();
         refusals(list);
         large(list);
+        plain(list);
         texts();
+        plain_texts();
         laboratories();
         pairs();
         paired();
