@@ -297,7 +297,7 @@ pub fn longest(r: &mut Rng) -> Case {
     if r.chance(50) { Case { qubit_cap: u64::MAX, term_cap: u64::MAX, ..case } } else { case }
 }
 
-fn of_gates(r: &mut Rng, n: usize, least: usize, most: usize) -> Case {
+pub fn of_gates(r: &mut Rng, n: usize, least: usize, most: usize) -> Case {
     let on = names(r, n, n);
     let g = if r.chance(10) { most } else { r.from(least, most) };
     let mix = Mix { opaque: r.pick(&[0, 0, 1, 5]), ..any_mix(r) };
