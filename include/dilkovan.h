@@ -3,8 +3,8 @@
  *
  * No function allocates, fails or keeps anything between calls; any numbers and any bytes may be given, and what can't be taken is
  * refused. What is said below of answers and rooms is proved for every input (docs/PROMISES.md). The caller sees to what no
- * proof of the library can: each pointer is aligned, not null (not even for 0 numbers) and leads to as many numbers as stand beside it, and no
- * two of the rooms, and no room and the list or text, overlap.
+ * proof of the library can: each pointer is aligned, not null (not even for 0 numbers) and leads to as many numbers as stand beside it, each of them set
+ * (a room's to anything: it is read too), and no two of the rooms, and no room and the list or text, overlap.
  *
  * Refusals, by number (README.md has the codes of the gates and the grammar of a text):
  *

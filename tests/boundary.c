@@ -270,11 +270,12 @@ static void plainly(Call c, long more, uint64_t answer, const int32_t *result, c
 /* The plain engine leaves what the first one leaves. */
 static void beside(Call c, long more) {
     size_t g = c.length / DILKOVAN_WIDTH;
-    int32_t *out = malloc((c.length + 1) * sizeof *out);
-    uint64_t *terms = malloc((DILKOVAN_TERMS(g) + 1) * sizeof *terms), counts[8];
-    uint32_t *steps = malloc(DILKOVAN_STEPS(g) * sizeof *steps);
+    /* set, as what stands in a room is read */
+    int32_t *out = calloc(c.length + 1, sizeof *out);
+    uint64_t *terms = calloc(DILKOVAN_TERMS(g) + 1, sizeof *terms), counts[8];
+    uint32_t *steps = calloc(DILKOVAN_STEPS(g), sizeof *steps);
     if (!out || !terms || !steps)
-        fail("malloc", "no memory");
+        fail("calloc", "no memory");
     if (dilkovan_cnot_min(c.list, c.length, c.wires, c.bits, c.qubit_cap, c.term_cap, out, c.length, terms, DILKOVAN_TERMS(g), steps, DILKOVAN_STEPS(g), counts))
         fail(c.name, "the first engine refuses it");
     plainly(c, more, 0, out, counts);
