@@ -1,4 +1,6 @@
 // One gate folds into the block under construction: its wires join, and the rows, constants or terms take it.
+#![tactic(auto)]
+
 ghost use Rattle.std.specs.Prelude.{◌≡◌, ◌+◌, ◌^◌, ◌≤◌, ◌<◌, length};
 ghost use Rattle.rules.specs.Meaning.{op, flip, phase, cnot, cz};
 ghost use Rattle.rules.specs.Fold as Fold;

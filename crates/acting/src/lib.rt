@@ -1,10 +1,12 @@
 // Do two runs of fragment gates act alike? The crate carries the definition of the answer and its theorems; of code, the answer and its number.
+#![tactic(auto)]
+
 ghost use Rattle.std.specs.Prelude.{◌≡◌};
 ghost use Rattle.acting.specs.Alike.{number_of};
 ghost use Rattle.acting.specs.Answer.{verdict_of};
 
 // The runs are the same, or the first that differs of linear map, flips and phase.
-#[derive(Drop)]
+#[derive(Clone, Copy)]
 pub enum Verdict {
     Same,
     Map,

@@ -1,4 +1,6 @@
 // The entry point: may one list of fragment gates stand in for another? Both are checked, the first one whole before the second, then compared.
+#![tactic(auto)]
+
 ghost use Rattle.std.specs.Prelude.{◌≡◌, ◌+◌, ◌*◌, ◌≤◌, length};
 ghost use Rattle.rules.specs.Limits.{width};
 ghost use Rattle.rules.specs.Refusal.{accepted};
@@ -19,13 +21,13 @@ const OPAQUE: u8 = 16;
 const LINE: u8 = 18;
 
 // A refusal, and the list that it belongs to: 1 or 2.
-#[derive(Drop)]
+#[derive(Clone, Copy)]
 pub struct Blame {
     pub list: u8,
     pub refusal: Refusal,
 }
 
-#[derive(Drop)]
+#[derive(Clone, Copy)]
 pub enum Answer {
     Refused(Blame),
     Told(Verdict),

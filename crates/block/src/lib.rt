@@ -1,5 +1,7 @@
 // The block under construction: gates fold into its rows, constants and terms. The state goes by value, beside the rooms that are lent:
 // names and table of the join table, rows of two words, term room and the heads of its index.
+#![tactic(auto)]
+
 ghost use Rattle.std.specs.Prelude.{◌≡◌, true, ◌+◌, ◌^◌, ◌≤◌, ◌<◌, length, get_or};
 ghost use Rattle.rules.specs.Limits.{max_columns};
 ghost use Rattle.rules.specs.Bit.{bit};
@@ -14,7 +16,7 @@ use join::{Local, Place, Wire};
 use parity::Parity;
 
 // How many wires have joined; bit i of `flips` is the constant of local index i; how many terms there are.
-#[derive(Drop)]
+#[derive(Clone, Copy)]
 pub struct Block {
     pub wires: u32,
     pub flips: Parity,
@@ -22,14 +24,14 @@ pub struct Block {
 }
 
 // A wire that has joined, and the block with it.
-#[derive(Drop)]
+#[derive(Clone, Copy)]
 pub struct Entered {
     pub block: Block,
     pub at: Local,
 }
 
 // Two that have, and the block with them.
-#[derive(Drop)]
+#[derive(Clone, Copy)]
 pub struct EnteredTwo {
     pub block: Block,
     pub control: Local,

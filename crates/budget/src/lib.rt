@@ -1,9 +1,11 @@
 // The budget of a resynthesis: CNOT and CZ counted, gates counted, and the block's own number of each. It goes by value; only `push` has it lent.
+#![tactic(auto)]
+
 ghost use Rattle.std.specs.Prelude.{◌≡◌};
 ghost use Rattle.rules.specs.Budget as Rules;
 ghost use Rattle.budget.specs.View.{view, counts, Low, Push};
 
-#[derive(Drop)]
+#[derive(Clone, Copy)]
 pub struct Budget {
     pub two: usize,
     pub all: usize,
@@ -11,7 +13,7 @@ pub struct Budget {
     pub maxall: usize,
 }
 
-#[derive(Drop)]
+#[derive(Clone, Copy)]
 pub struct Pushed {
     pub budget: Budget,
     pub within: bool,

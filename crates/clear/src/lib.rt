@@ -1,4 +1,6 @@
 // Lent rooms and parts of them, set to 0. A caller lends exactly the part that is to be cleared.
+#![tactic(auto)]
+
 ghost use Rattle.std.specs.Prelude.{◌≡◌, pos, length, replicate};
 
 pub fn words(room: &mut [u64])

@@ -1,4 +1,6 @@
 // The closing map: rows taken to the identity by additions, which are written into a lent room, and emitted in reverse as CNOTs.
+#![tactic(auto)]
+
 ghost use Rattle.std.specs.Prelude.{◌≡◌, ◌+◌, ◌*◌, ◌≤◌, ◌<◌, min, length};
 ghost use Rattle.rules.specs.Close.{inverse};
 ghost use Rattle.rules.specs.Synth as Synth;
@@ -13,7 +15,7 @@ use join::Local;
 use rows::Found;
 
 // How many additions were written; lost where there is no end, or they would pass the limit.
-#[derive(Drop)]
+#[derive(Clone, Copy)]
 pub enum Closed {
     Steps(usize),
     Lost,

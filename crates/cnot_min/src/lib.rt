@@ -1,4 +1,6 @@
 // The entry point: a list checked, each of its blocks written again where that is cheaper, the rooms cleared, and eight counts.
+#![tactic(auto)]
+
 ghost use Rattle.std.specs.Prelude.{◌≡◌, length};
 ghost use Rattle.rules.specs.Numbers.{gates_of};
 ghost use Rattle.rules.specs.Counts.{twos, ts};
@@ -14,7 +16,7 @@ use rules::{GATE_TERMS, GATE_WIDTH, MAX_COLUMNS, MAX_WIRES, STEP_WIDTH, TERM_WID
 use scan::Tally;
 
 // In document 01's order: gates, CNOT and CZ together, T as the machine spends it, each in and out; blocks closed, blocks replaced.
-#[derive(Drop)]
+#[derive(Clone, Copy)]
 pub struct Counts {
     pub gatesin: usize,
     pub gatesout: usize,
@@ -26,7 +28,7 @@ pub struct Counts {
     pub replaced: usize,
 }
 
-#[derive(Drop)]
+#[derive(Clone, Copy)]
 pub enum Answer {
     Refused(Refusal),
     Done(Counts),

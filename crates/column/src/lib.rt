@@ -1,5 +1,7 @@
 // The column by which a node of the walk is split: the candidate whose split is furthest from even, on a tie the highest. Document 01 says it by the
 // larger side, and so do the contracts; `scan` says why that is the same choice.
+#![tactic(auto)]
+
 ghost use Rattle.std.specs.Prelude.{◌≡◌, true, false, ◌&&◌, cond, ℕ, ◌+◌, ◌*◌, ◌^◌, ◌≤◌, ◌<◌, length, get_or, eqb};
 ghost use Rattle.rules.specs.Bit.{bit};
 ghost use Rattle.rules.specs.Walk.{side, beats};
@@ -15,14 +17,14 @@ ghost use Rattle.column.specs.Planes.{one, tally, Sifted};
 use parity::Parity;
 
 // The best column so far, and how far its split is from even.
-#[derive(Drop)]
+#[derive(Clone, Copy)]
 pub struct Kept {
     pub column: u32,
     pub distance: usize,
 }
 
 // Candidates on which all parities agree, and on which all but one do.
-#[derive(Drop)]
+#[derive(Clone, Copy)]
 pub struct Surveyed {
     pub whole: Parity,
     pub near: Parity,

@@ -1,5 +1,7 @@
 // Do two checked lists of fragment gates over the same wires act alike? No room is lent: rows and sums are local, and turns are summed for one
 // wire with all others at a time.
+#![tactic(auto)]
+
 ghost use Rattle.std.specs.Prelude.{◌≡◌, [], ◌∷◌, ◌≤◌, ◌<◌, length};
 ghost use Rattle.rules.specs.Bit.{◌⊕◌, xor};
 ghost use Rattle.rules.specs.Fold.{signed};
@@ -26,7 +28,7 @@ const ROWS_ROOM: usize = 2 * MAX_COLUMNS;
 const ODDS_ROOM: usize = 2 * lanes::ROWS;
 
 // What a list ends with: the constants, and the sums of one wire.
-#[derive(Drop)]
+#[derive(Clone, Copy)]
 pub struct Ran {
     pub flips: Parity,
     pub sums: Lanes,

@@ -1,4 +1,6 @@
 // The static library: the entry points under names that a program in another language can call. A slice is a pointer and a count.
+#![tactic(auto)]
+
 ghost use Rattle.std.specs.Prelude.{cond, ◌≡◌};
 ghost use Rattle.cnot_min.specs.Minimizing.{told, counted};
 ghost use Rattle.alike.specs.Answering as Alike;

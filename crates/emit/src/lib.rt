@@ -1,4 +1,6 @@
 // Gates written at a block's own place in the output, each counted by the budget. All that is emitted goes through here.
+#![tactic(auto)]
+
 ghost use Rattle.std.specs.Prelude.{◌≡◌, [], ◌∷◌, ◌<◌, ◌^◌, eqb, leb, ◌&&◌, ◌||◌};
 ghost use Rattle.rules.specs.Gate.{gate1, gate2, code_x, code_t, code_z, code_cnot};
 ghost use Rattle.rules.specs.Counts.{is_two};

@@ -1,4 +1,6 @@
 // Export: our list's text as a laboratory's, OpenQASM 2.0, or its refusal.
+#![tactic(auto)]
+
 ghost use Rattle.std.specs.Prelude.{◌≡◌, ◌*◌, ◌≤◌, ◌^◌, ◌<◌, length};
 ghost use Rattle.spelling.specs.Sizes.{answer_bytes};
 ghost use Rattle.spelling.specs.Heads.{head_of};

@@ -1,4 +1,6 @@
 // The pass over a list that was read, in rooms exactly as long as it needs; and what its gates then are.
+#![tactic(auto)]
+
 ghost use Rattle.std.specs.Prelude.{◌*◌, ◌≤◌, length};
 ghost use Rattle.rules.specs.Limits.{width};
 ghost use Rattle.spelling.specs.Sizes.{list_gates};

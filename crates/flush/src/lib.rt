@@ -1,4 +1,6 @@
 // A closed block: written again at its own place in the output, and kept there if that is cheaper; else the place gets the block's own gates.
+#![tactic(auto)]
+
 ghost use Rattle.std.specs.Prelude.{◌≡◌, true, ◌*◌, ◌≤◌, length};
 ghost use Rattle.rules.specs.Limits.{width};
 ghost use Rattle.rules.specs.Numbers.{gates_of};
@@ -19,7 +21,7 @@ use walk::NODE_WIDTH;
 pub const STACK: usize = NODE_WIDTH * (MAX_COLUMNS + 1);
 
 // How many gates the place now has, and whether they are new.
-#[derive(Drop)]
+#[derive(Clone, Copy)]
 pub struct Flushed {
     pub gates: usize,
     pub replaced: bool,

@@ -1,4 +1,6 @@
 // Gates as numbers: the check of a list, a gate read and written, and counts.
+#![tactic(auto)]
+
 ghost use Rattle.std.specs.Prelude.{◌≡◌, ◌+◌, ◌*◌, ◌^◌, ◌≤◌, ◌<◌, length};
 ghost use Rattle.rules.specs.Limits.{width};
 ghost use Rattle.rules.specs.Gate as Codes;
@@ -35,21 +37,21 @@ const CODE_CSWAP: u32 = 26;
 const CODE_MEASURE: u32 = 27;
 
 // The refusal's number in document 01's table, its place, and the field that is wrong: 1 first, 2 second, 3 third; 0 where it names none.
-#[derive(Drop)]
+#[derive(Clone, Copy)]
 pub struct Refusal {
     pub number: u8,
     pub place: usize,
     pub field: u8,
 }
 
-#[derive(Drop)]
+#[derive(Clone, Copy)]
 pub enum Verdict {
     Accepted,
     Refused(Refusal),
 }
 
 // A gate in unsigned numbers, its turn from 0 to 7. It has no line: what is made of gates has none of its own.
-#[derive(Drop)]
+#[derive(Clone, Copy)]
 pub struct Gate {
     pub code: u32,
     pub first: u32,

@@ -1,4 +1,6 @@
 // Import: a laboratory's text, OpenQASM 2.0, as our list's text, or its refusal.
+#![tactic(auto)]
+
 ghost use Rattle.std.specs.Prelude.{◌*◌, ◌≤◌, length};
 ghost use Rattle.rules.specs.Limits.{width};
 ghost use Rattle.spelling.specs.Sizes.{list_gates, answer_bytes};

@@ -1,17 +1,19 @@
 // Circuit wires and a block's local indices, each a number type of its own. Only what stands here leads from one to the other.
+#![tactic(auto)]
+
 ghost use Rattle.std.specs.Prelude.{◌≡◌, not, ◌<◌, length, get_or, eqb};
 ghost use Rattle.join.specs.Tables.{number_of, Joins, Joinable, Enters, Leaves};
 
 // A wire of the circuit.
-#[derive(Drop)]
+#[derive(Clone, Copy)]
 pub struct Wire(pub u32);
 
 // A joined wire's index within its block.
-#[derive(Drop)]
+#[derive(Clone, Copy)]
 pub struct Local(pub u32);
 
 // What a wire's entry of the join table says.
-#[derive(Drop)]
+#[derive(Clone, Copy)]
 pub enum Place {
     At(Local),
     Nothing,

@@ -1,4 +1,6 @@
 // Turns summed for one wire with all others at once: on it modulo 8, on it and a second modulo 4, on it and two others modulo 2.
+#![tactic(auto)]
+
 ghost use Rattle.std.specs.Prelude.{◌≡◌, not, cond, [], ◌∷◌, ◌%◌, ◌≤◌, ◌<◌, ltb, length};
 ghost use Rattle.rules.specs.Bit.{bit};
 ghost use Rattle.rules.specs.Meaning.{when1};
@@ -17,7 +19,7 @@ pub const ROWS: usize = 64;
 
 // For one wire: the sum of the turns on it; by second wire, the two digits of the sum modulo 4. A room beside it has, by second wire of its own
 // word, the sum of the parities with an odd turn.
-#[derive(Drop)]
+#[derive(Clone, Copy)]
 pub struct Lanes {
     pub turn: u8,
     pub low: Parity,

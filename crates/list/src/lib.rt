@@ -1,4 +1,6 @@
 // The entry point text to text: a list read, checked, each of its blocks written again where that is cheaper, and printed.
+#![tactic(auto)]
+
 ghost use Rattle.std.specs.Prelude.{◌*◌, ◌≤◌, length};
 ghost use Rattle.rules.specs.Limits.{width};
 ghost use Rattle.spelling.specs.Sizes.{list_gates, answer_bytes};

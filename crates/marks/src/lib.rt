@@ -1,4 +1,6 @@
 // Rooms filled with marks, none of them 0, and looked at afterwards.
+#![tactic(auto)]
+
 ghost use Rattle.std.specs.Prelude.{◌≡◌, cond, ◌≤◌, pos};
 ghost use Rattle.marks.specs.Marks as Marks;
 

@@ -1,4 +1,6 @@
 // Where a gate of a shortened circuit comes from, written for people: its statement, and a line or two lines of the laboratory's text.
+#![tactic(auto)]
+
 ghost use Rattle.std.specs.Prelude.{◌≡◌, cond, ◌+◌, ◌-◌, ◌*◌, ◌/◌, ◌≤◌, length};
 ghost use Rattle.rules.specs.Limits.{width};
 ghost use Rattle.text.specs.Clauses.{Prints};

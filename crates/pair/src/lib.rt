@@ -1,4 +1,6 @@
 // The entry point text to text: two lists read, one behind the other, and compared.
+#![tactic(auto)]
+
 ghost use Rattle.std.specs.Prelude.{◌≤◌, length, drop};
 ghost use Rattle.spelling.specs.Sizes.{list_gates, answer_bytes};
 ghost use Rattle.spelling.specs.Reading.{list_at};

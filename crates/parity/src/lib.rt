@@ -1,10 +1,12 @@
 // A parity: a set of columns 0 to 127, in two words. Methods take it by value and hand a new one back.
+#![tactic(auto)]
+
 ghost use Rattle.std.specs.Prelude.{◌≡◌, ◌&&◌, ◌||◌, cond, [], ◌∷◌, ℕ, ◌-◌, ◌≤◌, ◌<◌, ◌^◌, eqb};
 ghost use Rattle.rules.specs.Bit.{bit, xor};
 ghost use Rattle.parity.specs.Columns.{clear_lowest, LowestIs, HighestIs};
 ghost use Rattle.parity.specs.View.{val, picked};
 
-#[derive(Drop)]
+#[derive(Clone, Copy)]
 pub struct Parity {
     pub lo: u64,
     pub hi: u64,

@@ -1,5 +1,7 @@
 // The plain engine: every resynthesis is written to its end, and only then compared. Its answer, output and work rooms are those of the first engine
 // wherever it is not refused, so the budget of that one decides nothing.
+#![tactic(auto)]
+
 ghost use Rattle.std.specs.Prelude.{◌≡◌, pos, length, replicate};
 ghost use Rattle.rules.specs.Pass.{writer_of};
 ghost use Rattle.plan.specs.View.{view};

@@ -1,4 +1,6 @@
 // What the plain engine takes: the tests of the first engine, limits of its own straight after 3, and one room more.
+#![tactic(auto)]
+
 ghost use Rattle.std.specs.Prelude.{◌≡◌};
 ghost use Rattle.gate.specs.Verdicts.{verdict_of};
 ghost use Rattle.plain_check.specs.Refusing.{plain_verdict};

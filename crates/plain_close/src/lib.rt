@@ -1,5 +1,7 @@
 // The closing map in its plainest form: the rows are taken to the identity by additions, every one of them is noted, and then they are written in reverse
 // as CNOTs. Nothing stops it on the way: n rows never take more than n squared additions, and the room has that many.
+#![tactic(auto)]
+
 ghost use Rattle.std.specs.Prelude.{◌≡◌, cond, ◌+◌, ◌*◌, ◌≤◌, ◌<◌, length, get_or};
 ghost use Rattle.rules.specs.Close as Paper;
 ghost use Rattle.rules.specs.Synth as Synth;
@@ -13,14 +15,14 @@ use join::Local;
 use rows::Found;
 
 // How many additions are noted; stuck where there is no end.
-#[derive(Drop)]
+#[derive(Clone, Copy)]
 pub enum Ended {
     After(usize),
     Stuck,
 }
 
 // How many gates stand in the room; nothing where there is no map.
-#[derive(Drop)]
+#[derive(Clone, Copy)]
 pub enum Closed {
     To(usize),
     Nothing,

@@ -1,5 +1,7 @@
 // A closed block of the plain engine: its resynthesis is written to its end in a room of its own; only then are the counts of the two whole writings
 // compared, and the cheaper one is copied to the block's place.
+#![tactic(auto)]
+
 ghost use Rattle.std.specs.Prelude.{◌≡◌, false, ◌*◌, ◌≤◌, length};
 ghost use Rattle.rules.specs.Limits.{width};
 ghost use Rattle.rules.specs.Numbers.{gates_of};
@@ -20,7 +22,7 @@ use rules::{GATE_WIDTH, TERM_WIDTH};
 use walk::NODE_WIDTH;
 
 // What the place then has, and how many CNOT and CZ the new writing has, kept or not.
-#[derive(Drop)]
+#[derive(Clone, Copy)]
 pub struct Kept {
     pub flushed: Flushed,
     pub twos: usize,

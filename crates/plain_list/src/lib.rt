@@ -1,4 +1,6 @@
 // The plain engine text to text: a list read, checked, every resynthesis written to its end and then compared, and printed as the list program prints it.
+#![tactic(auto)]
+
 ghost use Rattle.std.specs.Prelude.{◌*◌, ◌≤◌, length};
 ghost use Rattle.rules.specs.Limits.{width};
 ghost use Rattle.spelling.specs.Sizes.{list_gates, answer_bytes};

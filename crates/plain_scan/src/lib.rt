@@ -1,4 +1,6 @@
 // The loop of the plain engine: the list cut into the first engine's pieces, each block's resynthesis written to its end before it is compared.
+#![tactic(auto)]
+
 ghost use Rattle.rules.specs.Pass.{writer_of};
 ghost use Rattle.plan.specs.View.{view};
 ghost use Rattle.scan.specs.Scanning.{Closable, Ready, Advances, Scannable, Scans};

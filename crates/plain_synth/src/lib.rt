@@ -1,4 +1,6 @@
 // A block's resynthesis written to its end at the beginning of a room: phase walk, closing map, flips. Nothing is compared on the way.
+#![tactic(auto)]
+
 ghost use Rattle.std.specs.Prelude.{◌≡◌, ◌≤◌, ◌<◌, ◌^◌, length};
 ghost use Rattle.rules.specs.Walk.{phase_walk};
 ghost use Rattle.rules.specs.Close.{units};

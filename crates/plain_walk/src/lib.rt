@@ -1,5 +1,7 @@
 // Document 01's phase walk in its plainest form, over lent rooms: the waiting nodes in a stack of their own, their sets side by side in the room of terms. Every
 // CNOT passes over all terms that wait as soon as it is made, every candidate column is counted, and every gate is written: nothing is foreseen, put off or given up.
+#![tactic(auto)]
+
 ghost use Rattle.std.specs.Prelude.{◌≡◌, ◌≢◌, cond, [], ◌∷◌, ◌+◌, ◌-◌, ◌^◌, ◌<◌, ◌≤◌, max, length, take};
 ghost use Rattle.rules.specs.Walk.{free, leaf, node, beats, phase_walk};
 ghost use Rattle.rules.specs.Synth as Synth;
@@ -19,14 +21,14 @@ use parity::Parity;
 use walk::{NONE, Slot};
 
 // The best column so far, and the size of its larger side.
-#[derive(Drop)]
+#[derive(Clone, Copy)]
 pub struct Kept {
     pub column: u32,
     pub score: usize,
 }
 
 // How many nodes wait, where the newest one's set ends, and how many gates are written.
-#[derive(Drop)]
+#[derive(Clone, Copy)]
 pub struct State {
     pub depth: usize,
     pub end: usize,

@@ -1,4 +1,6 @@
 // What a pass goes by, in one value: made once, and handed down to all that a cap or a later mode concerns.
+#![tactic(auto)]
+
 ghost use Rattle.std.specs.Prelude.{◌≡◌};
 ghost use Rattle.rules.specs.Limits.{clamp_qubits, clamp_terms};
 ghost use Rattle.rules.specs.Plan.{plan_of};
@@ -7,7 +9,7 @@ ghost use Rattle.plan.specs.View.{view};
 use rules::MAX_COLUMNS;
 
 // The most wires and the most terms that a block may hold.
-#[derive(Drop)]
+#[derive(Clone, Copy)]
 pub struct Plan {
     pub qubits: usize,
     pub terms: usize,

@@ -1,4 +1,6 @@
 // A list, what stands beside it and a refusal, written into a lent room.
+#![tactic(auto)]
+
 ghost use Rattle.std.specs.Prelude.{◌≡◌, ◌+◌, ◌*◌, ◌/◌, ◌≤◌, length};
 ghost use Rattle.rules.specs.Limits.{width};
 ghost use Rattle.text.specs.Clauses.{Prints, line_size, named_size, number_size};

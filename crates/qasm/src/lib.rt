@@ -1,4 +1,6 @@
 // The laboratories' text, OpenQASM 2.0, read and written by one table of spellings.
+#![tactic(auto)]
+
 ghost use Rattle.std.specs.Prelude.{◌≡◌, cond, [], ◌∷◌, ◌+◌, ◌-◌, ◌*◌, ◌^◌, ◌/◌, ◌≤◌, ◌<◌, ltb, length, get_or, drop};
 ghost use Rattle.rules.specs.Limits.{width, last_code};
 ghost use Rattle.text.specs.Bytes.{pasted};
@@ -26,21 +28,21 @@ const STARTS: [u8; 29] = [
 const LAST_CODE: u32 = 27;
 
 // A part of the table.
-#[derive(Drop)]
+#[derive(Clone, Copy)]
 struct Span {
     pub from: usize,
     pub to: usize,
 }
 
 // A register's size, or 0 where it is left out, and the next place.
-#[derive(Drop)]
+#[derive(Clone, Copy)]
 struct Register {
     pub size: u32,
     pub next: usize,
 }
 
 // The lines before the gates: whether they are right, the registers' sizes, the number of the next line or of the wrong one, and the next place.
-#[derive(Drop)]
+#[derive(Clone, Copy)]
 struct Opening {
     pub ok: bool,
     pub wires: u32,
@@ -50,7 +52,7 @@ struct Opening {
 }
 
 // The gates' lines: whether they are right, the number of the line behind them or of the wrong one, and how many gates.
-#[derive(Drop)]
+#[derive(Clone, Copy)]
 struct Body {
     pub ok: bool,
     pub line: usize,
@@ -58,7 +60,7 @@ struct Body {
 }
 
 // A line is wrong or missing: its number; too many gates; too many wires or bits; or wires, bits, and how many gates.
-#[derive(Drop)]
+#[derive(Clone, Copy)]
 pub enum Imported {
     Wrong(usize),
     Many,

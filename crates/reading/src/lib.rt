@@ -1,4 +1,6 @@
 // The text of a list, read line by line.
+#![tactic(auto)]
+
 ghost use Rattle.std.specs.Prelude.{◌≡◌, ◌+◌, ◌*◌, ◌^◌, ◌≤◌, ◌<◌, length, drop};
 ghost use Rattle.rules.specs.Limits.{width};
 ghost use Rattle.text.specs.Clauses.{Reads};
@@ -13,7 +15,7 @@ use spelling::Head;
 use text::{Natural, Place};
 
 // The head's lines: whether they are right, the number of the next line or of the wrong one, and the next place.
-#[derive(Drop)]
+#[derive(Clone, Copy)]
 struct Heading {
     pub ok: bool,
     pub head: Head,
@@ -22,7 +24,7 @@ struct Heading {
 }
 
 // The gates' lines, likewise.
-#[derive(Drop)]
+#[derive(Clone, Copy)]
 struct Rows {
     pub ok: bool,
     pub line: usize,
@@ -31,7 +33,7 @@ struct Rows {
 
 // A list from a place on: a line is malformed or missing: its number; too many gates: the line of `gates`; or the head, how many gates,
 // the number of the next line, and the next place.
-#[derive(Drop)]
+#[derive(Clone, Copy)]
 pub enum Front {
     Wrong(usize),
     Large(usize),
@@ -39,7 +41,7 @@ pub enum Front {
 }
 
 // A line is malformed, missing or surplus: its number; too many gates: the line of `gates`; or the head, and how many gates.
-#[derive(Drop)]
+#[derive(Clone, Copy)]
 pub enum Read {
     Malformed(usize),
     Many(usize),

@@ -1,4 +1,6 @@
 // Bit matrices over lent rooms, two words to a row: the low word, then the high one.
+#![tactic(auto)]
+
 ghost use Rattle.std.specs.Prelude.{◌≡◌, ◌⊎◌, cond, map, ℕ, ◌-◌, ◌^◌, ◌≤◌, ◌<◌, length, get_or, set};
 ghost use Rattle.parity.specs.View.{val, picked};
 ghost use Rattle.rules.specs.Bit.{xor};
@@ -8,7 +10,7 @@ ghost use Rattle.rows.specs.Rows.{rows_of, found_of, other_has, pair, given};
 use parity::Parity;
 
 // What a search for a row meets.
-#[derive(Drop)]
+#[derive(Clone, Copy)]
 pub enum Found {
     At(usize),
     Nothing,

@@ -1,4 +1,6 @@
 // The crate that carries the definitions of document 01 and their theorems; of code, only the numbers that it fixes, each by name and once.
+#![tactic(auto)]
+
 ghost use Rattle.std.specs.Prelude.{◌≡◌};
 ghost use Rattle.rules.specs.Limits as Limits;
 
@@ -48,7 +50,7 @@ pub const CODE_CNOT: u32 = 8;
 pub const CODE_CZ: u32 = 9;
 
 // The limits in one value, so that one statement says that the code's are document 01's.
-#[derive(Drop)]
+#[derive(Clone, Copy)]
 pub struct Fixed {
     pub width: usize,
     pub gates: usize,

@@ -1,4 +1,6 @@
 // What the programs that take a text share: an answer in a lent room, a refusal, and a list's text taken or refused.
+#![tactic(auto)]
+
 ghost use Rattle.std.specs.Prelude.{◌*◌, ◌≤◌, length};
 ghost use Rattle.rules.specs.Limits.{width};
 ghost use Rattle.spelling.specs.Sizes.{list_gates, answer_bytes};
@@ -10,14 +12,14 @@ use rules::GATE_WIDTH;
 use spelling::{Head, LIST_BYTES, LIST_GATES};
 
 // How many bytes were printed, and whether they are a refusal.
-#[derive(Drop)]
+#[derive(Clone, Copy)]
 pub struct Said {
     pub length: usize,
     pub refused: bool,
 }
 
 // A refusal that was printed; or the head of a list that was read, and how many gates it has.
-#[derive(Drop)]
+#[derive(Clone, Copy)]
 pub enum Taken {
     Refused(Said),
     Good(Head, usize),

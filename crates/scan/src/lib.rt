@@ -1,4 +1,6 @@
 // The scan: the list cut into blocks and copied gates, each block written again where that is cheaper, the result side by side in the output.
+#![tactic(auto)]
+
 ghost use Rattle.std.specs.Prelude.{◌≡◌, cond, ◌++◌, suc, ◌+◌, ◌≤◌, ltb};
 ghost use Rattle.rules.specs.Limits.{max_gates};
 ghost use Rattle.rules.specs.Numbers.{gate_at, numbers};
@@ -18,14 +20,14 @@ pub const HEADS: usize = 4096;
 const MATRIX: usize = 2 * MAX_COLUMNS;
 
 // The block of a run of gates, and the place behind the run.
-#[derive(Drop)]
+#[derive(Clone, Copy)]
 pub struct Run {
     pub block: Block,
     pub end: usize,
 }
 
 // The next gate, and what was made of those before: gates written, blocks closed, blocks replaced.
-#[derive(Drop)]
+#[derive(Clone, Copy)]
 pub struct Tally {
     pub at: usize,
     pub gates: usize,

@@ -1,4 +1,6 @@
 // A laboratory's text shortened in one go: read, each block of its gates written again where that is cheaper, and printed as a laboratory's text.
+#![tactic(auto)]
+
 ghost use Rattle.std.specs.Prelude.{◌≡◌, ◌*◌, ◌≤◌, length};
 ghost use Rattle.rules.specs.Refusal.{accepted};
 ghost use Rattle.spelling.specs.Sizes.{answer_bytes};

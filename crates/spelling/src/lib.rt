@@ -1,5 +1,7 @@
 // A list spelled as a text, both ways: the definitions that reading and printing share, and the laws that each undoes the other.
 // Of code, a list's head and its form, what ends a number of a line, and the sizes of the programs that take a text, each by name and once.
+#![tactic(auto)]
+
 ghost use Rattle.std.specs.Prelude.{◌≡◌, cond, ◌+◌, ◌-◌, ◌<◌, eqb, length};
 ghost use Rattle.text.specs.Bytes.{lf, blank};
 ghost use Rattle.spelling.specs.Sizes as Sizes;
@@ -15,7 +17,7 @@ pub const LIST_GATES: usize = 896;
 pub const ANSWER_BYTES: usize = 12 * (GATE_WIDTH * LIST_GATES) + 256;
 
 // As read: neither cap is clamped. The form: 4 for `head 4`, or the fifth number of `head 5`; below 4 is as 4, above 6 as 6.
-#[derive(Drop)]
+#[derive(Clone, Copy)]
 pub struct Head {
     pub wires: u32,
     pub bits: u32,
@@ -51,7 +53,7 @@ pub fn end_of(k: usize, n: usize) -> u8
 }
 
 // The sizes in one value, so that one statement says that the code's are the definitions'.
-#[derive(Drop)]
+#[derive(Clone, Copy)]
 pub struct Fixed {
     pub bytes: usize,
     pub gates: usize,

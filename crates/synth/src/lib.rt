@@ -1,4 +1,6 @@
 // The resynthesis of a block: phase walk, closing map, flips.
+#![tactic(auto)]
+
 ghost use Rattle.std.specs.Prelude.{◌≡◌, ℕ, ◌≤◌, ◌<◌, ◌^◌, length, get_or};
 ghost use Rattle.rules.specs.Walk.{phase_walk};
 ghost use Rattle.rules.specs.Close.{units};

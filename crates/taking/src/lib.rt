@@ -1,4 +1,6 @@
 // Whether the block under construction takes a gate: the qubit cap first, then the term cap.
+#![tactic(auto)]
+
 ghost use Rattle.std.specs.Prelude.{◌≡◌, cond, List, ℕ, ◌+◌, ◌≤◌, ◌<◌, length, get_or, leb};
 ghost use Rattle.rules.specs.Limits.{max_columns};
 ghost use Rattle.rules.specs.Meaning.{op};

@@ -1,5 +1,7 @@
 // The term room: terms side by side in a lent room, three numbers to a term: a parity's low word, its high word, and a word that is its turn and 8 times
 // a link. The links and another lent room, the heads, are an index: for each hash a chain of the terms with it.
+#![tactic(auto)]
+
 ghost use Rattle.std.specs.Prelude.{◌≡◌, ◌&&◌, cond, ◌/◌, ◌^◌, ◌<◌, ◌≤◌, length, take, get_or, eqb, ltb};
 ghost use Rattle.rules.specs.Fold.{signed, add_term};
 ghost use Rattle.rules.specs.Walk.{nonzero};
@@ -10,7 +12,7 @@ ghost use Rattle.terms.specs.Terms.{terms_of, words_of, term_of, no_term, exchan
 use parity::Parity;
 
 // A term as the code holds it: `turn` is the whole word, and the turn that word modulo 8.
-#[derive(Drop)]
+#[derive(Clone, Copy)]
 pub struct Entry {
     pub parity: Parity,
     pub turn: u64,

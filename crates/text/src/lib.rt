@@ -1,4 +1,6 @@
 // Numbers, words and lines of a text: read from a place on, and written into a lent room.
+#![tactic(auto)]
+
 ghost use Rattle.std.specs.Prelude.{◌≡◌, ◌&&◌, ◌||◌, not, [], ◌∷◌, ◌+◌, ◌-◌, ◌*◌, ◌≤◌, ◌<◌, min, eqb, ltb, pos, length, get_or, drop};
 ghost use Rattle.text.specs.Bytes as Bytes;
 ghost use Rattle.text.specs.Printing as Printing;
@@ -10,21 +12,21 @@ ghost use Rattle.text.specs.Clauses.{Reads, Writes, Prints, Scans, Signs, top, l
 const LARGEST: u32 = 2147483647;
 
 // Whether it is there, and the place behind it. Where it isn't, the place is somewhere within the text.
-#[derive(Drop)]
+#[derive(Clone, Copy)]
 pub struct Place {
     pub ok: bool,
     pub next: usize,
 }
 
 // Whether a number is there, the number, and the place behind it. Where it isn't, the number says nothing.
-#[derive(Drop)]
+#[derive(Clone, Copy)]
 pub struct Natural {
     pub ok: bool,
     pub value: u32,
     pub next: usize,
 }
 
-#[derive(Drop)]
+#[derive(Clone, Copy)]
 pub struct Integer {
     pub ok: bool,
     pub value: i32,
@@ -32,7 +34,7 @@ pub struct Integer {
 }
 
 // A run of digits: its worth, or the largest u32 where that is more, and the place behind it.
-#[derive(Drop)]
+#[derive(Clone, Copy)]
 struct Digits {
     pub worth: u32,
     pub next: usize,

@@ -1,4 +1,6 @@
 // Parts of the engine under names that a program in another language can call, so that they can be timed beside the original.
+#![tactic(auto)]
+
 ghost use Rattle.std.specs.Prelude.{◌≡◌, ◌+◌, ◌*◌, ◌^◌, ◌≤◌, ◌<◌, length};
 ghost use Rattle.rules.specs.Close.{inverse};
 ghost use Rattle.rows.specs.Rows.{rows_of, given};

@@ -1,5 +1,7 @@
 // Where each gate of a shortened circuit comes from: a laboratory's text in; out, for each gate that the pass makes of it, a line with its statement and the
 // line that it was copied from, or the lines of the block that was written again.
+#![tactic(auto)]
+
 ghost use Rattle.std.specs.Prelude.{◌≡◌, ◌+◌, ◌*◌, ◌/◌, ◌≤◌, ◌<◌, length};
 ghost use Rattle.rules.specs.Limits.{width};
 ghost use Rattle.rules.specs.Numbers.{gates_of};

@@ -1,4 +1,6 @@
 // A turn counts units of pi/4, so turns are numbers modulo 8. A byte holds one, and may hold it unreduced.
+#![tactic(auto)]
+
 ghost use Rattle.std.specs.Prelude.{◌≡◌, ◌+◌, ◌-◌, ◌%◌};
 ghost use Rattle.rules.specs.Meaning.{turn8};
 ghost use Rattle.rules.specs.Fold as Fold;

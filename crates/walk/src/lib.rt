@@ -1,5 +1,7 @@
 // Document 01's phase walk over lent rooms: the waiting nodes in a stack of their own, their sets side by side in the room of terms. Of the CNOTs that a
 // target has had, the terms that wait take note all at once, when their turn or another target's comes.
+#![tactic(auto)]
+
 ghost use Rattle.std.specs.Prelude.{◌≡◌, ◌≢◌, false, [], ◌∷◌, ◌+◌, ◌-◌, ◌%◌, ◌^◌, ◌<◌, ◌≤◌, length, get_or, set};
 ghost use Rattle.rules.specs.Bit.{bit, xor};
 ghost use Rattle.rules.specs.Walk.{free, turns, leaf, node};
@@ -27,7 +29,7 @@ pub const NODE_WIDTH: usize = 5;
 pub const NONE: u64 = 128;
 
 // A waiting node. Its set ends where that of the next begins.
-#[derive(Drop)]
+#[derive(Clone, Copy)]
 pub struct Slot {
     pub cands: Parity,
     pub target: u64,
@@ -36,7 +38,7 @@ pub struct Slot {
 }
 
 // Flips that wait: the terms before the place `upto` have yet to have the mask's columns flipped where they have the target, which is none of these columns.
-#[derive(Drop)]
+#[derive(Clone, Copy)]
 pub struct Pending {
     pub mask: Parity,
     pub target: u32,
@@ -44,7 +46,7 @@ pub struct Pending {
 }
 
 // How many nodes wait, where the newest one's set ends, the budget, with whether it is still kept, and the flips that wait.
-#[derive(Drop)]
+#[derive(Clone, Copy)]
 pub struct State {
     pub depth: usize,
     pub end: usize,
@@ -54,7 +56,7 @@ pub struct State {
 }
 
 // What was emitted, and the flips that then wait.
-#[derive(Drop)]
+#[derive(Clone, Copy)]
 pub struct Moved {
     pub pushed: Pushed,
     pub pending: Pending,
@@ -304,7 +306,7 @@ pub fn branch(room: &mut [u64], nodes: &mut [u64], at: usize, d: Slot, end: usiz
 }
 
 // A column, and the others of its mask.
-#[derive(Drop)]
+#[derive(Clone, Copy)]
 pub struct Taken {
     pub column: u32,
     pub mask: Parity,

@@ -1,4 +1,6 @@
 // Gates written one behind another in a room of their own, to the end: nothing is counted against a ceiling, and no line is given yet.
+#![tactic(auto)]
+
 ghost use Rattle.std.specs.Prelude.{◌≡◌, [], ◌∷◌, ◌<◌, ◌^◌, length};
 ghost use Rattle.rules.specs.Gate.{gate1, gate2, code_x, code_cnot};
 ghost use Rattle.rules.specs.Synth as Synth;
