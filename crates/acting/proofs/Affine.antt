@@ -1,16 +1,16 @@
 -- Where a run takes a setting: an affine map, which the zeros and the settings with a single one determine; and nothing depends on wires that no gate names.
-use mathlib.Core.Path.{◌≡◌, refl, sym, ap, ap₂, ◌∙◌, fun_ext}
+use mathlib.Core.Path.{◌≡◌, refl, sym, ap, ap₂, ◌∙◌}
 use mathlib.Core.Bool.{Bool, true, false, ◌&&◌, cond}
 use mathlib.Core.List.{List, [], ◌∷◌}
 use Prim.Native.Nat.{ℕ, zero, suc, ◌+◌, ◌≤◌, ◌<◌}
 use native.Mathlib.Nat.{le_refl, le-suc, le_trans}
 use native.Mathlib.Omega.{arith}
-use lib.Dec.{eqb, ltb}
-use borrow.Author.Tests.{lt-ltb, le-ltb, ltb-true, ltb-false, ne_eqb}
+use lib.Dec.{eqb}
+use borrow.Author.Tests.{lt-ltb, ne_eqb}
 use Rattle.rules.specs.Bit.{◌⊕◌}
 use Rattle.rules.specs.Meaning.{Op, flip, phase, cnot, cz, other, moved, added, wires, phases, when1}
-use Rattle.rules.proofs.Bits.{split, ⊕-false, ⊕-self, ⊕-assoc, ⊕-left, ⊕-mid}
-use Rattle.acting.specs.Alike.{Setting, zeros, turned, Below, AllBelow, enters}
+use Rattle.rules.proofs.Bits.{split, ⊕-self, ⊕-assoc}
+use Rattle.acting.specs.Alike.{Setting, zeros, Below, AllBelow, enters}
 use Rattle.acting.proofs.Differences.{◌⊞◌, unit, line, moved-plus, cut, cut-zero, cut-without, cut-with}
 
 -- ---- the linear part of a run

@@ -2,11 +2,10 @@
 use mathlib.Core.Path.{◌≡◌, refl, sym, ap, ap₂, ◌∙◌}
 use mathlib.Core.Logic.{◌↔◌}
 use mathlib.Core.Bool.{Bool, true, false, ◌&&◌, cond}
-use mathlib.Core.List.{List, [], ◌∷◌, ◌++◌}
-use Prim.Native.Nat.{ℕ, zero, suc, ◌+◌, ◌-◌, ◌*◌, ◌%◌, ◌^◌, ◌≤◌, ◌<◌}
-use native.Mathlib.Nat.{add_comm}
+use mathlib.Core.List.{List, [], ◌∷◌}
+use Prim.Native.Nat.{ℕ, zero, ◌+◌, ◌-◌, ◌%◌, ◌^◌, ◌<◌}
 use native.Mathlib.Omega.{arith}
-use lib.ListN.{length, get_or}
+use lib.ListN.{length}
 use lib.Seq.{ext_get_or}
 use lib.Dec.{eqb}
 use lib.Pow.{pow-lt, pow_pos}
@@ -14,8 +13,8 @@ use borrow.Author.Tests.{eq-eqb, eqb-true}
 use Rattle.rules.specs.Bit.{◌⊕◌, bit, xor, dot}
 use Rattle.rules.specs.Meaning.{Op, flip, phase, cnot, cz, other, wires, phases, when1}
 use Rattle.rules.specs.Fold.{Term, signed}
-use Rattle.rules.specs.Close.{add_to, units, eq_rows}
-use Rattle.rules.proofs.Bits.{same, and_left, and_right, ⊕-false, ⊕-self, ⊕-assoc, xor_lt}
+use Rattle.rules.specs.Close.{eq_rows}
+use Rattle.rules.proofs.Bits.{and_left, and_right, ⊕-false, xor_lt}
 use Rattle.rules.proofs.Closing.{at, at-add_to, length-add_to, at-units, length-units}
 use Rattle.rules.proofs.Bounds.{digits-eq}
 use Rattle.acting.specs.Alike.{Setting, zeros, turned, Below, AllBelow, SameMap, SameFlips, SamePhase, enters, first, map_test, flips_test, phase_test, verdict}

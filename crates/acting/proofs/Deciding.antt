@@ -1,44 +1,19 @@
 -- The answer is right: `alike` exactly for runs that act alike, and each other answer exactly where that is the first to differ.
-use mathlib.Core.Path.{◌≡◌, refl, sym, ap, ap₂, ◌∙◌, subst}
+use mathlib.Core.Path.{◌≡◌, refl, sym, ap, ap₂, ◌∙◌}
 use mathlib.Core.Logic.{◌↔◌}
-use mathlib.Core.Bool.{Bool, true, false, not, ◌&&◌, cond, false≢true}
+use mathlib.Core.Bool.{Bool, true, false, false≢true}
 use mathlib.Core.List.{List, [], ◌∷◌}
 use Prim.Native.Nat.{ℕ, zero, suc, ◌+◌, ◌*◌, ◌%◌, ◌≤◌, ◌<◌, zero-le, suc-le-suc}
 use native.Mathlib.Nat.{le_refl, le-suc, le_trans, not-suc-le-zero}
 use native.Mathlib.Omega.{arith}
 use lib.ListN.{length}
-use lib.Dec.{eqb, ltb}
+use lib.Dec.{ltb}
 use borrow.Author.Tests.{eqb-true, eq-eqb, ltb-true, ltb-false}
 use Rattle.rules.specs.Bit.{◌⊕◌}
 use Rattle.rules.specs.Meaning.{Op, wires, phases, Alike}
 use Rattle.rules.proofs.Bits.{split, same, and_left, and_right, ⊕-false, ⊕-self, ⊕-assoc, ⊕-mid}
-use Rattle.acting.specs.Alike.{
-  Setting,
-  zeros,
-  turned,
-  Falling,
-  turned_all,
-  AllBelow,
-  SameMap,
-  SameFlips,
-  SamePhase,
-  each,
-  few,
-  eq_bit,
-  enters,
-  map_test,
-  flips_test,
-  phase_at,
-  phase_test,
-  Verdict,
-  alike,
-  map_differs,
-  flips_differ,
-  phase_differs,
-  first,
-  verdict,
-}
-use Rattle.acting.proofs.Differences.{◌⊞◌, unit, Deg, deg-plus, deg-minus, deg-constant, diff-ext, phases-deg, cut, Few, decide}
+use Rattle.acting.specs.Alike.{Setting, zeros, turned, Falling, turned_all, AllBelow, SameMap, SameFlips, SamePhase, each, few, eq_bit, enters, map_test, flips_test, phase_at, phase_test, alike, map_differs, flips_differ, phase_differs, first, verdict}
+use Rattle.acting.proofs.Differences.{Deg, deg-plus, deg-minus, deg-constant, diff-ext, phases-deg, cut, Few, decide}
 use Rattle.acting.proofs.Affine.{lines, enters-line, wires-beyond, wires-split, phases-cut, lines-decide}
 
 -- ---- tests of ranges

@@ -9,8 +9,8 @@ use native.Mathlib.Omega.{arith}
 use borrow.Author.Tests.{lt-ltb, le-ltb, ltb-true, ltb-false}
 use lib.Dec.{eqb, ltb}
 use Rattle.rules.specs.Bit.{◌⊕◌}
-use Rattle.rules.specs.Meaning.{Op, flip, phase, cnot, cz, other, change, moved, added, wires, phases, when1}
-use Rattle.rules.proofs.Bits.{split, same, eqb-self, ⊕-false, ⊕-self, ⊕-assoc, ⊕-left, ⊕-mid}
+use Rattle.rules.specs.Meaning.{Op, flip, phase, cnot, cz, other, change, moved, added, phases, when1}
+use Rattle.rules.proofs.Bits.{split, same, eqb-self, ⊕-false, ⊕-assoc, ⊕-mid}
 use Rattle.acting.specs.Alike.{Setting, zeros, turned}
 
 infixl 30 ◌⊞◌

@@ -1,25 +1,19 @@
 -- A table of rows holds what the wires hold, and the turns weigh what the gates add.
 use mathlib.Core.Path.{◌≡◌, refl, sym, ap, ap₂, ◌∙◌}
-use mathlib.Core.Logic.{◌↔◌}
 use mathlib.Core.Bool.{Bool, true, false, ◌&&◌, cond}
 use mathlib.Core.List.{List, [], ◌∷◌, ◌++◌}
-use Prim.Native.Nat.{ℕ, zero, suc, ◌+◌, ◌-◌, ◌*◌, ◌%◌, ◌^◌, ◌≤◌, ◌<◌}
+use Prim.Native.Nat.{ℕ, zero, ◌+◌, ◌-◌, ◌%◌, ◌^◌, ◌<◌}
 use native.Mathlib.Omega.{arith}
-use lib.ListN.{length, get_or}
-use lib.Seq.{ext_get_or}
+use lib.ListN.{length}
 use lib.Dec.{eqb}
-use lib.Pow.{pow-lt, pow_pos}
-use borrow.Author.Tests.{eq-eqb, eqb-true}
-use Rattle.rules.specs.Bit.{◌⊕◌, bit, xor, sum, dot}
+use Rattle.rules.specs.Bit.{◌⊕◌, bit, dot}
 use Rattle.rules.specs.Meaning.{Op, flip, phase, cnot, cz, other, moved, added, wires, phases, when1}
 use Rattle.rules.specs.Fold.{Term, signed}
-use Rattle.rules.specs.Close.{add_to, units, eq_rows}
-use Rattle.rules.proofs.Bits.{split, same, ⊕-false, ⊕-self, ⊕-assoc, ⊕-mid, bit_xor, bit-unit, bit-zero, xor_lt, sum-ext, sum-false, sum-at, dot-xor, dot-unit}
-use Rattle.rules.proofs.Closing.{at, dot-add_to, at-add_to, length-add_to, at-units, length-units}
-use Rattle.rules.proofs.Bounds.{digits-eq}
-use Rattle.acting.specs.Alike.{Setting, zeros, turned, Below, AllBelow, SameMap, SameFlips, enters}
-use Rattle.acting.specs.Table.{Table, begin, act, table_of, rotated, turns, turns_of, minus, apart, total}
-use Rattle.acting.proofs.Differences.{◌⊞◌, unit}
+use Rattle.rules.proofs.Bits.{⊕-false, ⊕-assoc, ⊕-mid, bit_xor, bit-unit, bit-zero, sum-ext, sum-false, sum-at, dot-xor, dot-unit}
+use Rattle.rules.proofs.Closing.{at, dot-add_to, length-add_to, at-units, length-units}
+use Rattle.acting.specs.Alike.{Setting, zeros, Below, AllBelow}
+use Rattle.acting.specs.Table.{Table, begin, act, table_of, turns, turns_of, total}
+use Rattle.acting.proofs.Differences.{unit}
 
 -- ---- a parity of the zeros, of a single one, of a sum
 

@@ -11,12 +11,12 @@ use borrow.Author.Tests.{eq-eqb, eqb-true, ne_eqb, le-ltb, ltb-false}
 use Rattle.rules.specs.Bit.{◌⊕◌, bit, dot}
 use Rattle.rules.specs.Meaning.{when1}
 use Rattle.rules.specs.Fold.{Term}
-use Rattle.rules.proofs.Bits.{split, same, and_left, and_right, and-⊕, ⊕-false, sum-ext, sum-⊕}
+use Rattle.rules.proofs.Bits.{split, and_left, and_right, sum-ext, sum-⊕}
 use Rattle.acting.specs.Alike.{Setting, zeros, each}
 use Rattle.acting.specs.Table.{total, quiet}
 use Rattle.acting.proofs.Differences.{◌⊞◌, unit, cut, cut-zero, cut-without, cut-with}
 use Rattle.acting.proofs.Deciding.{each-true, true-each}
-use Rattle.acting.proofs.Tables.{and_comm, and-false, dot-zeros, dot-one}
+use Rattle.acting.proofs.Tables.{and-false, dot-zeros, dot-one}
 
 pub dot-plus : (n p : ℕ) (s u : Setting) → dot n p (s ⊞ u) ≡ (dot n p s ⊕ dot n p u)
 unfolding dot

@@ -1,5 +1,5 @@
 -- Do two runs act alike: an answer that looks at settings with at most three ones, and what each answer means.
-use Rattle.std.specs.Prelude.{◌≡◌, Bool, true, false, not, ◌&&◌, cond, List, [], ◌∷◌, ℕ, zero, suc, ◌+◌, ◌%◌, ◌<◌, eqb}
+use Rattle.std.specs.Prelude.{◌≡◌, Bool, true, false, not, ◌&&◌, List, [], ◌∷◌, ℕ, zero, suc, ◌+◌, ◌%◌, ◌<◌, eqb}
 use Rattle.rules.specs.Bit.{◌⊕◌}
 use Rattle.rules.specs.Meaning.{Op, flip, phase, cnot, cz, other, wires, phases}
 

@@ -1,5 +1,5 @@
 -- The answer as a program computes it: a table of n rows, and sums of turns by one, two and three wires.
-use Rattle.std.specs.Prelude.{Bool, true, false, ◌&&◌, cond, List, [], ◌∷◌, ◌++◌, ℕ, zero, ◌+◌, ◌%◌, ◌^◌, get_or, eqb}
+use Rattle.std.specs.Prelude.{Bool, true, ◌&&◌, cond, List, [], ◌∷◌, ◌++◌, ℕ, zero, ◌+◌, ◌%◌, ◌^◌, get_or, eqb}
 use Rattle.rules.specs.Bit.{◌⊕◌, bit, xor}
 use Rattle.rules.specs.Meaning.{Op, flip, phase, cnot, cz, other, when1}
 use Rattle.rules.specs.Fold.{Term, signed}

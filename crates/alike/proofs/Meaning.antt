@@ -10,7 +10,6 @@ use Rattle.acting.specs.Alike.{AllBelow, verdict}
 use Rattle.acting.proofs.Deciding.{verdict-alike, verdict-map, verdict-flips, verdict-phase}
 use Rattle.compare.specs.View.{ops_of}
 use Rattle.compare.proofs.Saying.{fine-below}
-use Rattle.alike.specs.Asking.{asked}
 use Rattle.alike.specs.Answering.{Answer, refusal, says, after, answer, told, Taken, Answers}
 use Rattle.alike.specs.declared.Answer as Code
 use Rattle.alike.proofs.Checking.{asked-fine}

@@ -1,5 +1,5 @@
 -- The refusals of one of two lists of fragment gates, exactly when each is given, and in their order. There are no classical bits.
-use Rattle.std.specs.Prelude.{Bool, not, cond, List, [], ◌∷◌, ◌++◌, ℕ, zero, suc, ◌/◌, ◌%◌, eqb, ltb, ℤ, pos, length}
+use Rattle.std.specs.Prelude.{Bool, not, List, [], ◌∷◌, ◌++◌, ℕ, zero, suc, ◌/◌, ◌%◌, eqb, ltb, ℤ, pos, length}
 use Rattle.rules.specs.Limits.{width, max_gates, max_wires, max_columns}
 use Rattle.rules.specs.Gate.{fragment}
 use Rattle.rules.specs.Numbers.{nat_of, negative, field}

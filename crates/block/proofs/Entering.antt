@@ -18,8 +18,8 @@ use lib.Dec.{eqb}
 use borrow.Author.Tests.{eq-eqb, ne_eqb}
 use Rattle.rules.specs.Limits.{max_columns}
 use Rattle.rules.specs.Bit.{bit}
-use Rattle.rules.specs.Fold.{Row, Block, empty, joined, row_of, join, fresh}
-use Rattle.rules.proofs.Bits.{split, same, bit-zero}
+use Rattle.rules.specs.Fold.{Row, empty, joined, row_of, join, fresh}
+use Rattle.rules.proofs.Bits.{split, bit-zero}
 use Rattle.parity.specs.View.{val}
 use Rattle.rows.specs.Rows.{rows_of}
 use Rattle.join.specs.Tables as Tables

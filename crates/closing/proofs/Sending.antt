@@ -4,7 +4,6 @@ use mathlib.Core.Bool.{Bool, true, false, false≢true, true≢false}
 use mathlib.Core.List.{List, [], ◌∷◌, ◌++◌, map, reverse, reverse-cons, reverse-append}
 use mathlib.Core.Option.{Option, none, some, none-ne-some, some-injective}
 use Prim.Native.Nat.{ℕ, zero, suc, ◌+◌, ◌-◌, ◌*◌, ◌≤◌, ◌<◌, min}
-use native.Mathlib.Numerals.{add-one}
 use native.Mathlib.Omega.{arith}
 use lib.IntN.{ℤ}
 use lib.ListN.{length, get_or, take, drop, length-append, length-map, length-reverse, take-append-drop}
@@ -12,13 +11,11 @@ use lib.Dec.{ltb}
 use lib.Seq.{length-take-le, drop-cons, get_or-take, drop-length}
 use borrow.Author.Tests.{ltb-true, ltb-false}
 use Rattle.rules.specs.Gate.{Gate, gate2, code_cnot}
-use Rattle.rules.specs.Counts.{twos}
 use Rattle.rules.specs.Walk.{Step, cn}
 use Rattle.rules.specs.Close.{Adds, times, eq_rows, inverse, and_then, reduce_from, closing}
 use Rattle.rules.specs.Synth.{emit}
 use Rattle.rules.specs.Budget.{Budget}
 use Rattle.rules.proofs.Bits.{split}
-use Rattle.rules.proofs.Walking.{Within}
 use Rattle.rules.proofs.Closing.{anywhere, Pure}
 use Rattle.rules.proofs.Counting.{reduce-size}
 use Rattle.rules.proofs.Passing.{twos-append}

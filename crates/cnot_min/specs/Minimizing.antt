@@ -2,7 +2,6 @@
 use Rattle.std.specs.Prelude.{◌≡◌, List, ◌++◌, ℕ, ◌-◌, ◌*◌, ◌≤◌, ℤ, pos, length, take, replicate}
 use Rattle.rules.specs.Limits.{width, max_columns, term_width, step_width, term_entries, step_entries}
 use Rattle.rules.specs.Numbers.{gates_of, numbers_of}
-use Rattle.rules.specs.Refusal.{accepted}
 use Rattle.rules.specs.Stretch.{Stretchwise, AlikeGates}
 use Rattle.rules.specs.Counts.{Thrifty, NoMoreT}
 use Rattle.rules.specs.Plan.{Plan, plan_of}

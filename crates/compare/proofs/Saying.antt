@@ -1,19 +1,19 @@
 -- The answer from the two tables and the test of the turns.
-use mathlib.Core.Path.{◌≡◌, refl, sym, ap, ◌∙◌}
-use mathlib.Core.Bool.{Bool, true, false}
-use mathlib.Core.List.{List, [], ◌∷◌, map}
+use mathlib.Core.Path.{◌≡◌, ap, ◌∙◌}
+use mathlib.Core.Bool.{true, false}
+use mathlib.Core.List.{List, map}
 use Prim.Native.Nat.{ℕ, zero, suc, ◌+◌, ◌/◌, ◌<◌, suc-le-suc, zero-le}
 use native.Mathlib.Omega.{arith}
 use lib.IntN.{ℤ}
 use lib.ListN.{length}
 use lib.Dec.{eqb}
 use Rattle.rules.specs.Limits.{width}
-use Rattle.rules.specs.Meaning.{Op, op}
+use Rattle.rules.specs.Meaning.{op}
 use Rattle.rules.specs.Close.{eq_rows}
 use Rattle.rules.specs.Numbers.{gate_at, gates_from, gates_of}
 use Rattle.rules.specs.Refusal.{fault_at}
 use Rattle.rules.proofs.Accepting.{fit_at}
-use Rattle.acting.specs.Alike.{AllBelow, first, Verdict, alike, map_differs, flips_differ, phase_differs, verdict}
+use Rattle.acting.specs.Alike.{AllBelow, first, alike, map_differs, flips_differ, phase_differs, verdict}
 use Rattle.acting.specs.Table.{Table, begin, table_of, map_of, flips_of, apart, quiet, computed}
 use Rattle.acting.proofs.Gates.{code_below}
 use Rattle.acting.proofs.Computing.{computed-verdict}

@@ -11,7 +11,7 @@ use Rattle.gate.specs.declared.Gate.{Gate}
 use Rattle.rows.specs.Rows.{rows_of}
 use Rattle.block.specs.Steps.{Wired}
 use Rattle.acting.specs.Table.{Table, table_of, turns_of, apart}
-use Rattle.lanes.specs.Lanes.{half, Notes, settled_of}
+use Rattle.lanes.specs.Lanes.{Notes, settled_of}
 use Rattle.lanes.specs.declared.Lanes.{Lanes}
 
 -- rows and constants, in a room and a parity

@@ -1,7 +1,6 @@
 -- Answers as a caller in another language gets them: one number, and the counts in a room of eight; of a text, one number and the length.
 use Rattle.std.specs.Prelude.{◌≡◌, cond, List, [], ◌∷◌, ℕ, ◌+◌, ◌*◌, ◌^◌, ◌<◌, ℤ}
 use Rattle.rules.specs.Pass as Paper
-use Rattle.gate.specs.declared.Refusal.{Refusal}
 use Rattle.cnot_min.specs.Minimizing.{told, Minimizes}
 use Rattle.cnot_min.specs.declared.Answer.{Answer}
 use Rattle.cnot_min.specs.declared.Answer.TheVariants.{Refused, Done}

@@ -1,5 +1,5 @@
 -- Gates appended at a block's own place in the output, counted by a budget that may be spent on the way.
-use Rattle.std.specs.Prelude.{◌≡◌, Bool, true, false, List, ◌++◌, ℕ, ◌*◌, ◌^◌, ◌≤◌, ◌<◌, ℤ, length, take}
+use Rattle.std.specs.Prelude.{◌≡◌, Bool, true, false, List, ◌++◌, ◌*◌, ◌^◌, ◌≤◌, ◌<◌, ℤ, length, take}
 use Rattle.rules.specs.Limits.{width}
 use Rattle.rules.specs.Gate.{Gate}
 use Rattle.rules.specs.Numbers.{numbers_of}

@@ -1,6 +1,6 @@
 -- What export prints reads, as a laboratory's text, as the same wires, bits and gates.
-use mathlib.Core.Path.{◌≡◌, refl, sym, ap, ◌∙◌}
-use mathlib.Core.Bool.{true, false, true≢false}
+use mathlib.Core.Path.{◌≡◌, sym, ap, ◌∙◌}
+use mathlib.Core.Bool.{false, true≢false}
 use mathlib.Core.List.{List}
 use Prim.Native.Nat.{ℕ, ◌/◌, ◌≤◌}
 use native.Mathlib.Omega.{arith}
@@ -9,13 +9,13 @@ use lib.Dec.{ltb}
 use lib.IntN.{ℤ}
 use lib.ListN.{length}
 use Rattle.rules.specs.Limits.{width}
-use Rattle.rules.specs.Refusal.{Verdict, accepted, refused}
+use Rattle.rules.specs.Refusal.{accepted}
 use Rattle.rules.proofs.Bits.{split}
-use Rattle.spelling.specs.Sizes.{list_bytes, list_gates}
+use Rattle.spelling.specs.Sizes.{list_gates}
 use Rattle.spelling.specs.Texts.{Head}
-use Rattle.spelling.specs.Reading.{Read, malformed, many, read, read_text}
+use Rattle.spelling.specs.Reading.{read, read_text}
 use Rattle.spelling.proofs.Spelling.{text-read}
-use Rattle.saying.specs.Answer.{Answer, exact, judged, checked, read_as, answer_by}
+use Rattle.saying.specs.Answer.{Answer, exact}
 use Rattle.saying.specs.Clauses.{Says}
 use Rattle.saying.specs.declared.Said.{Said}
 use Rattle.saying.proofs.Saying.{says-shown}

@@ -1,5 +1,5 @@
 -- What export answers to every text.
-use Rattle.std.specs.Prelude.{cond, List, [], ◌∷◌, ℕ, ◌/◌, ltb, ℤ, length}
+use Rattle.std.specs.Prelude.{List, [], ◌∷◌, ℕ, ◌/◌, ltb, ℤ, length}
 use Rattle.rules.specs.Limits.{width}
 use Rattle.rules.specs.Refusal.{first_number}
 use Rattle.spelling.specs.Texts.{Head}

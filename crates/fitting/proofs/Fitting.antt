@@ -1,7 +1,7 @@
 -- From what the entry point says to the pass in rooms exactly as long as a list needs.
-use mathlib.Core.Path.{◌≡◌, refl, sym, ap, ◌∙◌, subst}
+use mathlib.Core.Path.{◌≡◌, refl, sym, ap, ◌∙◌}
 use mathlib.Core.List.{List, ◌++◌, append_assoc}
-use Prim.Native.Nat.{ℕ, ◌+◌, ◌-◌, ◌*◌, ◌/◌, ◌≤◌, ◌<◌}
+use Prim.Native.Nat.{ℕ, ◌-◌, ◌*◌, ◌/◌}
 use native.Mathlib.Omega.{arith}
 use lib.IntN.{ℤ, pos}
 use lib.ListN.{length, take, drop, replicate, length-append}
@@ -16,10 +16,9 @@ use Rattle.rules.specs.Pass.{pass, counts, over}
 use Rattle.rules.proofs.Reading.{length-numbers, gates-length}
 use Rattle.rules.proofs.Accepting.{place_of}
 use Rattle.gate.specs.Verdicts.{refusal_of}
-use Rattle.cnot_min.specs.Minimizing.{told, counted, Minimizes}
+use Rattle.cnot_min.specs.Minimizing.{counted, Minimizes}
 use Rattle.cnot_min.specs.declared.Answer.{Answer}
 use Rattle.cnot_min.specs.declared.Answer.TheVariants.{Refused, Done}
-use Rattle.spelling.specs.Sizes.{list_gates}
 use Rattle.spelling.specs.Texts.{Head}
 use Rattle.saying.specs.Answer.{exact}
 use Rattle.saying.specs.Clauses.{Few}

@@ -1,5 +1,5 @@
 -- What the pass makes of an accepted list whose numbers fit a text: an accepted list, no longer, whose numbers fit too.
-use mathlib.Core.Path.{◌≡◌, refl, ap, ◌∙◌, subst}
+use mathlib.Core.Path.{◌≡◌, ap}
 use mathlib.Core.List.{List, [], ◌∷◌}
 use Prim.Native.Nat.{ℕ, zero, suc, ◌+◌, ◌*◌, ◌/◌, ◌≤◌, ◌<◌}
 use native.Mathlib.Omega.{arith}
@@ -14,7 +14,7 @@ use Rattle.rules.specs.Plan.{plan_of}
 use Rattle.rules.specs.Scan.{Result}
 use Rattle.rules.specs.Pass.{pass, writer_of}
 use Rattle.rules.proofs.Bits.{split}
-use Rattle.rules.proofs.Reading.{length-numbers, gates-length, read-written}
+use Rattle.rules.proofs.Reading.{gates-length, read-written}
 use Rattle.rules.proofs.Accepting.{accepted-is, Fit, fit, SoundAll, accepted-sound}
 use Rattle.rules.proofs.Output.{output-length, output-sound, output-accepted, plan-sound}
 use Rattle.text.specs.Reading.{largest}

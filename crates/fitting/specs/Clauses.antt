@@ -1,5 +1,5 @@
 -- What the crate's function says.
-use Rattle.std.specs.Prelude.{◌≡◌, List, ℕ, ◌*◌, ◌≤◌, ℤ, length, take}
+use Rattle.std.specs.Prelude.{◌≡◌, List, ◌*◌, ◌≤◌, ℤ, length, take}
 use Rattle.rules.specs.Limits.{width}
 use Rattle.rules.specs.Numbers.{gates_of, numbers_of}
 use Rattle.rules.specs.Refusal.{accepted, refused}

@@ -1,23 +1,21 @@
 -- What import prints reads back, and export would print the text that was read.
-use mathlib.Core.Path.{◌≡◌, refl, sym, ◌∙◌}
-use mathlib.Core.Bool.{true, false, true≢false}
+use mathlib.Core.Path.{◌≡◌, sym, ◌∙◌}
+use mathlib.Core.Bool.{false}
 use mathlib.Core.List.{List}
 use Prim.Native.Nat.{ℕ, ◌/◌, ◌≤◌}
 use native.Mathlib.Omega.{arith}
-use lib.Dec.{ltb}
 use lib.IntN.{ℤ}
 use lib.ListN.{length}
 use Rattle.rules.specs.Limits.{width}
-use Rattle.rules.proofs.Bits.{split}
 use Rattle.spelling.specs.Sizes.{list_bytes, list_gates}
 use Rattle.spelling.proofs.Forms.{shown-six}
 use Rattle.spelling.proofs.Spelling.{Listed, read-text}
 use Rattle.saying.specs.Clauses.{Says}
 use Rattle.saying.specs.declared.Said.{Said}
 use Rattle.saying.proofs.Saying.{says-shown}
-use Rattle.qasm.specs.Import.{Import, wrong, many, large, list, read_qasm}
+use Rattle.qasm.specs.Import.{list, read_qasm}
 use Rattle.qasm.proofs.Trips.{Spellable, import-export, import-lines}
-use Rattle.import.specs.Answer.{head_for, read_as, answer_by, translated, answer}
+use Rattle.import.specs.Answer.{head_for, translated, answer}
 use Rattle.import.specs.Clauses.{Translated, Imports}
 use Rattle.import.proofs.Taking.{answer-kept}
 

@@ -10,7 +10,7 @@ use lib.ListN.{length, length-append}
 use Rattle.rules.specs.Limits.{width, max_wires, max_bits}
 use Rattle.rules.proofs.Bits.{split}
 use Rattle.text.specs.Reading.{Found, none, found, onward, word}
-use Rattle.spelling.specs.Lines.{Lines, bad, good, line}
+use Rattle.spelling.specs.Lines.{Lines, bad, good}
 use Rattle.spelling.specs.Reading.{Rows}
 use Rattle.saying.proofs.Places.{number, line-number}
 use Rattle.qasm.specs.Statement.{on_line, statement}

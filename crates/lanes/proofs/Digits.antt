@@ -3,7 +3,7 @@ use mathlib.Core.Path.{◌≡◌, refl, sym, ap, ap₂, ◌∙◌}
 use mathlib.Core.Logic.{◌≢◌}
 use mathlib.Core.Bool.{Bool, true, false, not, ◌&&◌, cond, false≢true}
 use mathlib.Core.List.{List}
-use Prim.Native.Nat.{ℕ, zero, suc, ◌+◌, ◌-◌, ◌*◌, ◌/◌, ◌%◌, ◌^◌, ◌≤◌, ◌<◌}
+use Prim.Native.Nat.{ℕ, zero, suc, ◌+◌, ◌-◌, ◌*◌, ◌%◌, ◌^◌, ◌≤◌, ◌<◌}
 use native.Mathlib.Nat.{le_refl, pow-suc, lt_of_not-le}
 use native.Mathlib.Omega.{arith}
 use lib.ListN.{length, get_or, set, replicate}
@@ -11,7 +11,7 @@ use lib.Seq.{get_or-set_same, get_or-set_other}
 use lib.Dec.{eqb, ltb}
 use lib.Pow.{pow_pos}
 use borrow.Author.Tests.{eqb-true, eq-eqb, ltb-true, ltb-false, not-true}
-use Rattle.rules.specs.Bit.{◌⊕◌, bit, xor}
+use Rattle.rules.specs.Bit.{bit, xor}
 use Rattle.rules.proofs.Bits.{split, same, bit-zero, bit-ones, none-set}
 use Rattle.parity.specs.Columns.{clear_lowest, Lowest}
 use Rattle.parity.proofs.Laws.{bit_high, bit-clear, xor_zero_r}

@@ -1,6 +1,6 @@
 -- A turn on a parity, noted: what the sums then are.
 use mathlib.Core.Path.{◌≡◌, refl, sym, ap, ap₂, ◌∙◌}
-use mathlib.Core.Bool.{Bool, true, false, not, ◌&&◌, cond}
+use mathlib.Core.Bool.{Bool, true, false, ◌&&◌, cond}
 use mathlib.Core.List.{List, [], ◌∷◌, ◌++◌, append_assoc, append-nil}
 use Prim.Native.Nat.{ℕ, zero, suc, ◌+◌, ◌/◌, ◌%◌, ◌<◌}
 use native.Mathlib.Nat.{mod-lt, zero-lt-suc}
@@ -11,7 +11,7 @@ use borrow.Author.Tests.{eq-eqb, ne_eqb}
 use Rattle.rules.specs.Bit.{◌⊕◌, bit, xor}
 use Rattle.rules.specs.Meaning.{when1}
 use Rattle.rules.specs.Fold.{Term}
-use Rattle.rules.proofs.Bits.{same, ⊕-assoc, ⊕-left, bit_xor, bit-zero}
+use Rattle.rules.proofs.Bits.{same, bit_xor, bit-zero}
 use Rattle.parity.specs.View.{val}
 use Rattle.rows.specs.Rows.{rows_of}
 use Rattle.acting.specs.Table.{total}

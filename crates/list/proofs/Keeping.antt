@@ -1,26 +1,24 @@
 -- What is printed reads back, and keeps demand 3.
 use mathlib.Core.Path.{◌≡◌, refl, sym, ap, ◌∙◌}
-use mathlib.Core.Bool.{true, false, true≢false}
+use mathlib.Core.Bool.{false}
 use mathlib.Core.List.{List}
-use Prim.Native.Nat.{ℕ, ◌/◌, ◌≤◌}
+use Prim.Native.Nat.{ℕ, ◌/◌}
 use native.Mathlib.Omega.{arith}
-use lib.Dec.{ltb}
 use lib.IntN.{ℤ}
 use lib.ListN.{length}
 use Rattle.rules.specs.Limits.{width}
 use Rattle.rules.specs.Gate.{Gate}
 use Rattle.rules.specs.Numbers.{gates_of, numbers_of}
-use Rattle.rules.specs.Refusal.{Verdict, accepted, refused}
+use Rattle.rules.specs.Refusal.{accepted}
 use Rattle.rules.specs.Scan.{Result}
 use Rattle.rules.specs.Pass.{pass, counts}
-use Rattle.rules.proofs.Bits.{split}
 use Rattle.rules.proofs.Reading.{length-numbers}
 use Rattle.rules.proofs.Resynthesis.{promised, counts-spent}
-use Rattle.spelling.specs.Sizes.{list_bytes, list_gates}
+use Rattle.spelling.specs.Sizes.{list_gates}
 use Rattle.spelling.specs.Texts.{Head, list_text, result_text}
-use Rattle.spelling.specs.Reading.{Read, malformed, many, read, read_text}
+use Rattle.spelling.specs.Reading.{read, read_text}
 use Rattle.spelling.proofs.Spelling.{Listed, read-text, text-read}
-use Rattle.saying.specs.Answer.{exact, judged, checked, read_as, answer_by}
+use Rattle.saying.specs.Answer.{exact}
 use Rattle.saying.specs.Clauses.{Says}
 use Rattle.saying.specs.declared.Said.{Said}
 use Rattle.saying.proofs.Saying.{says-shown}

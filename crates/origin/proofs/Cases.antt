@@ -2,7 +2,6 @@
 use mathlib.Core.Path.{◌≡◌, refl}
 use mathlib.Core.List.{[], ◌∷◌}
 use lib.IntN.{pos, negsuc}
-use Rattle.rules.specs.Limits.{width}
 use Rattle.text.specs.Bytes.{bytes}
 use Rattle.text.specs.Printing.{printed, decimal}
 use Rattle.qasm.specs.Table.{template, field_of}

@@ -1,11 +1,11 @@
 -- A note in the place of a statement's LF; and gates one by one.
-use mathlib.Core.Path.{◌≡◌, refl, sym, ap, ◌∙◌}
+use mathlib.Core.Path.{◌≡◌, sym, ap, ◌∙◌}
 use mathlib.Core.Bool.{Bool, true, false}
-use mathlib.Core.List.{List, [], ◌∷◌, ◌++◌, append-nil}
-use Prim.Native.Nat.{ℕ, zero, suc, ◌+◌, ◌-◌, ◌*◌, ◌^◌, ◌≤◌, ◌<◌}
+use mathlib.Core.List.{List, [], ◌∷◌, ◌++◌}
+use Prim.Native.Nat.{ℕ, suc, ◌+◌, ◌-◌, ◌*◌, ◌^◌, ◌≤◌, ◌<◌}
 use native.Mathlib.Omega.{arith}
 use lib.IntN.{ℤ}
-use lib.ListN.{length, get_or, take, drop, length-append, take-append-drop}
+use lib.ListN.{length, get_or, drop, length-append, take-append-drop}
 use lib.Seq.{length-take-le, drop-cons, drop-length, drop-drop}
 use Rattle.rules.specs.Limits.{width}
 use Rattle.text.specs.Bytes.{bytes, lf, pasted}

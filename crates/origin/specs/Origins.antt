@@ -1,5 +1,5 @@
 -- Where each gate of a shortened circuit comes from, and how that is said to people.
-use Rattle.std.specs.Prelude.{cond, List, [], ◌∷◌, ◌++◌, map, ℕ, zero, ◌-◌, ℤ, length, take}
+use Rattle.std.specs.Prelude.{cond, List, [], ◌∷◌, ◌++◌, map, ℕ, zero, ◌-◌, length, take}
 use Rattle.rules.specs.Gate.{Gate}
 use Rattle.rules.specs.Numbers.{numbers}
 use Rattle.rules.specs.Scan.{Piece, copied, block, Writer, replaces}

@@ -2,17 +2,17 @@
 use mathlib.Core.Path.{◌≡◌, refl, sym, ap, ap₂, ◌∙◌, subst}
 use mathlib.Core.Bool.{Bool, true, false, not, ◌&&◌, ◌||◌, true≢false}
 use Prim.Native.Nat.{ℕ, zero, suc, ◌+◌, ◌-◌, ◌*◌, ◌/◌, ◌%◌, ◌^◌, ◌≤◌, ◌<◌, min}
-use native.Mathlib.Nat.{div-one, div-eq_of_lt, mod-lt, pow-suc, le_of_suc-le-suc, zero-lt-suc, lt_of_lt_of_le, le_antisymm, lt_of_not-le}
+use native.Mathlib.Nat.{div-one, div-eq_of_lt, mod-lt, pow-suc, le_of_suc-le-suc, zero-lt-suc, lt_of_lt_of_le}
 use native.Mathlib.Omega.{arith}
-use borrow.Author.Tests.{eqb-true, ltb-true, ltb-false}
-use lib.Dec.{eqb, ltb}
+use borrow.Author.Tests.{eqb-true}
+use lib.Dec.{eqb}
 use lib.Arith.{lt-one, digits_lt, digits_div}
-use lib.Pow.{pow_mono, pow-add, ones_lt, high, low}
+use lib.Pow.{pow_mono, pow-add, high, low}
 use lib.Bits as Digits
 use lib.Bits.{bit_and, bit_or, differ}
 use lib.Count.{count_trailing_zeros, count_leading_zeros, leading_top, under}
 use Rattle.rules.specs.Bit.{◌⊕◌, is_set, bit, xor}
-use Rattle.rules.proofs.Bits.{⊕-assoc, split, bit-zero, bit-suc, bit_xor, bit-unit, bit-ones, xor_lt}
+use Rattle.rules.proofs.Bits.{⊕-assoc, bit-suc, bit_xor, bit-unit, xor_lt}
 use Rattle.parity.specs.declared.Parity.{Parity}
 use Rattle.parity.specs.View.{val}
 use Rattle.parity.specs.Columns.{clear_lowest, Lowest, Highest}

@@ -7,7 +7,7 @@ use native.Mathlib.Omega.{arith}
 use lib.IntN.{ℤ, pos}
 use lib.ListN.{length, take, drop, replicate, length-replicate}
 use lib.Seq.{length-take-le}
-use Rattle.rules.specs.Limits.{width, clamp_qubits, max_columns, whole_gates}
+use Rattle.rules.specs.Limits.{width, clamp_qubits, whole_gates}
 use Rattle.rules.specs.Numbers.{gates_of}
 use Rattle.rules.specs.Refusal.{Refusal, accepted, refused}
 use Rattle.rules.specs.Plan.{Plan}

@@ -1,5 +1,5 @@
 -- The refusals of the plain engine, exactly when each is given, and in their order: 15 stands straight after 3, and 5 also covers the room of a resynthesis.
-use Rattle.std.specs.Prelude.{◌≡◌, Bool, not, ◌||◌, List, [], ◌∷◌, ℕ, zero, ◌*◌, ◌/◌, ◌%◌, ◌≤◌, eqb, ltb, ℤ, length}
+use Rattle.std.specs.Prelude.{◌≡◌, not, ◌||◌, List, [], ◌∷◌, ℕ, zero, ◌*◌, ◌/◌, ◌%◌, ◌≤◌, eqb, ltb, ℤ, length}
 use Rattle.rules.specs.Limits.{width, max_gates, max_wires, max_bits, term_width, step_width, term_entries, step_entries, plain_gates, plain_columns, whole_gates}
 use Rattle.rules.specs.Refusal.{Verdict, accepted, tell, first_number, ruled, faults_from, verdict}
 

@@ -2,13 +2,13 @@
 use mathlib.Core.Path.{◌≡◌, refl, sym, ap, ◌∙◌}
 use mathlib.Core.Bool.{Bool, true, false, cond}
 use mathlib.Core.List.{List, []}
-use mathlib.Core.Option.{Option, none, some}
+use mathlib.Core.Option.{none, some}
 use Prim.Native.Nat.{ℕ, suc, ◌+◌, ◌*◌, ◌≤◌, ◌<◌}
 use native.Mathlib.Nat.{mul-le-mul_right}
 use native.Mathlib.Omega.{arith}
 use lib.IntN.{ℤ}
 use lib.ListN.{length, get_or}
-use Rattle.rules.specs.Close.{Adds, add_to, note, clear, diagonal, and_then, eq_rows, closing}
+use Rattle.rules.specs.Close.{Adds, add_to, note, clear, diagonal, eq_rows, closing}
 use Rattle.rules.specs.Synth.{emit}
 use Rattle.rules.proofs.Counting.{size, column-size}
 use Rattle.rules.proofs.Steps.{closing_same}

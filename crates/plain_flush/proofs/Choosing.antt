@@ -4,7 +4,7 @@
 --     keeps-new, keeps-run     the new writing is copied, or the run
 --     keeps-none               there is no new writing
 use mathlib.Core.Path.{◌≡◌, refl, sym, ap, ◌∙◌}
-use mathlib.Core.Bool.{Bool, true, false, ◌&&◌, ◌||◌, true≢false}
+use mathlib.Core.Bool.{true, false, ◌&&◌, ◌||◌, true≢false}
 use mathlib.Core.List.{List}
 use mathlib.Core.Option.{Option, none, some}
 use Prim.Native.Nat.{ℕ, ◌*◌, ◌≤◌}
@@ -26,7 +26,6 @@ use Rattle.rules.proofs.Reading.{length-numbers, read-written}
 use Rattle.rules.proofs.Stamping.{stamp-length, stamp-twos, stamp-cheaper}
 use Rattle.gate.specs.Writing.{stamped}
 use Rattle.gate.proofs.Lines.{stamped-gates}
-use Rattle.budget.specs.declared.Budget as Code
 use Rattle.budget.specs.declared.Pushed.{Pushed}
 use Rattle.budget.specs.View.{view}
 use Rattle.writing.specs.Written.{Stands}

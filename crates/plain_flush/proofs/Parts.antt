@@ -6,14 +6,14 @@ use native.Mathlib.Nat.{mul-le-mul_right}
 use native.Mathlib.Omega.{arith}
 use lib.IntN.{ℤ}
 use lib.ListN.{length, take}
-use Rattle.rules.specs.Limits.{term_width, step_width, plain_columns}
+use Rattle.rules.specs.Limits.{term_width, plain_columns}
 use Rattle.rules.specs.Numbers.{gates_of}
 use Rattle.rules.specs.Fold.{Block}
 use Rattle.rules.specs.Synth.{block_of}
 use Rattle.rules.proofs.Ceiling.{walk-fits, terms-few}
 use Rattle.walk.specs.Stack.{node_width}
 use Rattle.block.specs.declared.Block as State
-use Rattle.block.specs.View.{block_at, terms_at}
+use Rattle.block.specs.View.{terms_at}
 use Rattle.flush.specs.Choice as First
 use Rattle.flush.specs.Choice.{Flushable}
 use Rattle.flush.proofs.Cutting as Cutting

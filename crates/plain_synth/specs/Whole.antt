@@ -1,5 +1,5 @@
 -- A block's resynthesis, whole, at the beginning of a room.
-use Rattle.std.specs.Prelude.{◌≡◌, List, ℕ, zero, ◌+◌, ◌*◌, ◌≤◌, ℤ, length}
+use Rattle.std.specs.Prelude.{◌≡◌, List, ℕ, ◌+◌, ◌*◌, ℤ, length}
 use Rattle.std.proofs.Math.Option.{Option, none, some}
 use Rattle.rules.specs.Gate.{Gate}
 use Rattle.rules.specs.Walk.{phase_walk}

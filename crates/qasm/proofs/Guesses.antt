@@ -1,6 +1,6 @@
 -- The two first bytes of a statement tell its code: no other spelling can stand there.
 use mathlib.Core.Path.{◌≡◌, refl, sym, ap, ◌∙◌}
-use mathlib.Core.Bool.{Bool, true, false, ◌&&◌, false≢true}
+use mathlib.Core.Bool.{Bool, true, ◌&&◌, false≢true}
 use mathlib.Core.List.{List, [], ◌∷◌}
 use Prim.Native.Nat.{ℕ, zero, suc, ◌+◌, ◌≤◌, ◌<◌}
 use native.Mathlib.Nat.{add-zero, zero-add}

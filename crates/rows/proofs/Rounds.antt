@@ -3,7 +3,7 @@ use mathlib.Core.Path.{◌≡◌, refl, sym, ap, ap₂, ◌∙◌}
 use mathlib.Core.Logic.{◌⊎◌, inl, inr}
 use mathlib.Core.Bool.{Bool, true, false, cond}
 use mathlib.Core.List.{List, [], ◌∷◌, ◌++◌}
-use mathlib.Core.Option.{Option, none, some}
+use mathlib.Core.Option.{none, some}
 use Prim.Native.Nat.{ℕ, zero, suc, ◌+◌, ◌-◌, ◌≤◌, ◌<◌}
 use native.Mathlib.Numerals.{add-one}
 use native.Mathlib.Omega.{arith}
@@ -15,9 +15,7 @@ use Rattle.rules.specs.Close.{add_to, swap, first_with, units, Pairs, clear_both
 use borrow.Author.Tests.{ne_eqb}
 use Rattle.rules.proofs.Bits.{same, eqb-self}
 use Rattle.parity.proofs.Laws.{xor_zero_r}
-use Rattle.parity.specs.View.{val, picked}
-use Rattle.parity.specs.declared.Parity.{Parity}
-use Rattle.rows.specs.Rows.{other_has, pair, given}
+use Rattle.rows.specs.Rows.{other_has, pair}
 
 -- ---- a list filled from the front is the first r elements of the list wanted
 

@@ -1,14 +1,14 @@
 -- The stack of the walk never holds more than n + 1 nodes.
 use mathlib.Core.Path.{◌≡◌, refl, ap}
 use mathlib.Core.List.{List, [], ◌∷◌}
-use Prim.Native.Nat.{ℕ, suc, ◌+◌, ◌-◌, ◌^◌, ◌≤◌, ◌<◌}
+use Prim.Native.Nat.{ℕ, suc, ◌+◌, ◌-◌, ◌^◌, ◌≤◌}
 use native.Mathlib.Omega.{arith}
 use lib.ListN.{length}
 use lib.Pow.{pow-lt, ones_lt}
 use Rattle.rules.specs.Bit.{bit}
 use Rattle.rules.specs.Fold.{Term}
 use Rattle.rules.specs.Walk.{Aim, free, on, owes, Node, best, is_none, cross_nodes, visit, open_node, node}
-use Rattle.rules.specs.Left.{tally, Stairs}
+use Rattle.rules.specs.Left.{Stairs}
 use Rattle.rules.proofs.Bits.{xor_lt, split}
 use Rattle.rules.proofs.Walking.{tally-le, tally-rest, best-ok}
 

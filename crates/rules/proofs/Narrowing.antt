@@ -4,7 +4,7 @@
 --     weight-narrow    and gets no heavier
 --     leads-narrow     so that what leads on from it leads on from the stack before
 use mathlib.Core.Path.{◌≡◌, refl, sym, ap, ◌∙◌}
-use mathlib.Core.Bool.{Bool, true, false, not, ◌&&◌, and-false, false≢true}
+use mathlib.Core.Bool.{Bool, true, false, not, ◌&&◌, and-false, false≢true, cond}
 use mathlib.Core.List.{List, [], ◌∷◌, ◌++◌, append-nil}
 use Prim.Native.Nat.{ℕ, zero, suc, ◌+◌, ◌*◌, ◌^◌, ◌≤◌, ◌<◌}
 use native.Mathlib.Nat.{le_refl, le_antisymm, lt_of_le_of_lt, not-suc-le-zero, pow-suc, mul-le-mul_right}
@@ -15,7 +15,7 @@ use lib.Pow.{pow-lt}
 use borrow.Author.Tests.{eqb-true, eqb-false}
 use Rattle.rules.specs.Bit.{◌⊕◌, bit, xor}
 use Rattle.rules.specs.Fold.{Term}
-use Rattle.rules.specs.Walk.{Step, cn, rot, Aim, free, on, owes, Node, side, score, best, cross_terms, cross_nodes, aim_with, is_none, node}
+use Rattle.rules.specs.Walk.{Step, cn, rot, Aim, free, on, owes, Node, side, score, best, cross_terms, cross_nodes, aim_with, is_none, node, leaf}
 use Rattle.rules.specs.Left.{pay, tally, weight, left, Leads, Stairs}
 use Rattle.rules.specs.Shortcuts.{any}
 use Rattle.rules.proofs.Bits.{split, same, and_left, and_right, bit-zero, bits-le, xor_lt, ⊕-false}
@@ -135,7 +135,14 @@ module _ (n k cs c : ℕ) (a : Aim) (e : Term) (es : List Term) (in-cs : bit cs 
   tree-open : (z o : List Term) → side false c ts ≡ z → side true c ts ≡ o
       → tree n (suc k) cs a ts ≡ pay a ++ (tree n k rest (paid a) z ++ tree n k rest (aim_with (paid a) c) (cross_all (tree n k rest (paid a) z) o))
   unfolding tree
-  tree-open z o ez eo = rw (some-set cs c in-cs, is, ez, eo)
+  tree-open z o ez eo =
+      let F : ℕ → Bool → List Term → List Term → List Step = λ d b u v.
+      let r = xor cs (2 ^ d) in
+      pay a ++ cond b (leaf (paid a) ts) (tree n k r (paid a) u ++ tree n k r (aim_with (paid a) d) (cross_all (tree n k r (paid a) u) v)) in
+      ap (λ (p : ℕ × ℕ). F p.0 (is_none cs) (side false p.0 ts) (side true p.0 ts)) is
+      ∙ ap (λ (b : Bool). F c b (side false c ts) (side true c ts)) (some-set cs c in-cs)
+      ∙ ap (λ (u : List Term). F c false u (side true c ts)) ez
+      ∙ ap (λ (v : List Term). F c false z v) eo
 
   -- no term has it: it is only taken out
   tree-unseen : any c ts ≡ false → tree n (suc k) cs a ts ≡ tree n k rest a ts

@@ -16,7 +16,7 @@ use Rattle.rules.specs.Stretch.{Later, parts, Paired, Stretchwise, AlikeGates}
 use Rattle.rules.specs.Counts.{twos, spends, ts, cheaper, Thrifty, unchanged, fewer, NoMoreT}
 use Rattle.rules.specs.Fold.{Block, empty}
 use Rattle.rules.specs.Synth.{block_of}
-use Rattle.rules.specs.Scan.{takes, Piece, copied, block, closed, cut, pieces_of, text_of, Writer, Plain, Lawful, Sparing, chosen, replaces, Result, finish, pass_by}
+use Rattle.rules.specs.Scan.{takes, Piece, copied, block, closed, cut, pieces_of, text_of, Writer, Plain, Lawful, Sparing, chosen, replaces, finish, pass_by}
 use Rattle.rules.specs.Promise.{Held, Changes, end, copy, keep, replace, Exactly}
 use Rattle.rules.proofs.Bits.{split, and_left, and_right}
 use Rattle.rules.proofs.Emitting.{wires-app, phases-app, map_app}

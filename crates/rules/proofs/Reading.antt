@@ -1,5 +1,5 @@
 -- Reading a list of numbers and writing one: each undoes the other.
-use mathlib.Core.Path.{◌≡◌, refl, sym, ap, ap₂, ◌∙◌}
+use mathlib.Core.Path.{◌≡◌, refl, sym, ap, ap₂, ◌∙◌, subst}
 use mathlib.Core.Logic.{◌≢◌}
 use mathlib.Core.List.{List, [], ◌∷◌, ◌++◌, append-nil}
 use Prim.Native.Nat.{ℕ, zero, suc, ◌+◌, ◌*◌, ◌/◌, ◌%◌, ◌≤◌, ◌<◌, zero-le, suc-le-suc}
@@ -138,7 +138,7 @@ written (suc n) l e h =
     let em : length m ≡ width * n = omega (arith, length-drop width l) in
     let hr : (i : ℕ) → i < suc n → Natural (r ++ m) i = λ i hi. rw p (h i hi) in
     let ih : numbers_of (gates_from m n zero) ≡ m = written n m em (λ i hi. natural-after r m er i (hr (suc i) (suc-le-suc hi))) in
-    rw p at (written_after r m er n (hr zero (suc-le-suc zero-le)) ih)
+    subst (λ (xs : List ℤ). numbers_of (gates_from xs (suc n) zero) ≡ xs) p (written_after r m er n (hr zero (suc-le-suc zero-le)) ih)
 
 pub write-natural : (l : List ℤ) → length l % width ≡ 0 → ((i : ℕ) → i < length l / width → Natural l i) → numbers_of (gates_of l) ≡ l
 unfolding gates_of

@@ -2,7 +2,7 @@
 use mathlib.Core.Path.{◌≡◌, refl, sym, ap, ap₂, ◌∙◌, subst}
 use mathlib.Core.List.{List, [], ◌∷◌, ◌++◌, map}
 use mathlib.Core.Option.{Option, none, some}
-use Prim.Native.Nat.{ℕ, zero, suc, ◌+◌, ◌%◌, ◌≤◌}
+use Prim.Native.Nat.{ℕ, zero, suc, ◌%◌, ◌≤◌}
 use lib.ListN.{get_or}
 use Rattle.rules.specs.Gate.{Gate, gate1, gate2, code_x, code_cnot}
 use Rattle.rules.specs.Meaning.{op, Alike}

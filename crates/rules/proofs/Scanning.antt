@@ -1,8 +1,8 @@
 -- The scan one gate at a time, as a loop makes it: what is done so far, with what the rest gives, is what the whole gives.
-use mathlib.Core.Path.{◌≡◌, refl, ap, ◌∙◌}
+use mathlib.Core.Path.{◌≡◌, ap, ◌∙◌}
 use mathlib.Core.Bool.{Bool, true, false, not, ◌&&◌, cond}
-use mathlib.Core.List.{List, [], ◌∷◌, ◌++◌, append_assoc, append-nil}
-use Prim.Native.Nat.{ℕ, zero, suc, ◌+◌, ◌≤◌}
+use mathlib.Core.List.{List, [], ◌∷◌, ◌++◌, append-nil}
+use Prim.Native.Nat.{zero, suc, ◌+◌, ◌≤◌}
 use native.Mathlib.Omega.{arith}
 use lib.ListN.{length}
 use lib.Dec.{leb}
@@ -12,7 +12,7 @@ use Rattle.rules.specs.Meaning.{Op, op, opaque}
 use Rattle.rules.specs.Fold.{Block, empty, entered, absorb}
 use Rattle.rules.specs.Synth.{block_of}
 use Rattle.rules.specs.Plan.{Plan}
-use Rattle.rules.specs.Scan.{roomy, takes, Piece, copied, block, closed, cut, Writer, chosen, replaces, Result, finish}
+use Rattle.rules.specs.Scan.{roomy, takes, Piece, copied, closed, cut, Writer, chosen, replaces, Result, finish}
 use Rattle.rules.proofs.Bits.{and_left, and_right}
 use Rattle.rules.proofs.Folding.{absorb-rows}
 

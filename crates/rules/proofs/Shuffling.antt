@@ -1,6 +1,6 @@
 -- The order of a node's set never shows in the walk, nor that of a block's terms in what is emitted.
 use mathlib.Core.Path.{◌≡◌, refl, sym, ap, ap₂, ◌∙◌, subst}
-use mathlib.Core.Bool.{Bool, true, false, not, ◌&&◌, cond}
+use mathlib.Core.Bool.{Bool, true, false, ◌&&◌, cond}
 use mathlib.Core.List.{List, [], ◌∷◌, ◌++◌}
 use Prim.Native.Nat.{ℕ, zero, suc, ◌+◌, ◌-◌, ◌%◌, ◌^◌, max}
 use native.Mathlib.Omega.{arith}
@@ -8,7 +8,7 @@ use lib.ListN.{length}
 use lib.Dec.{leb}
 use Rattle.rules.specs.Bit.{◌⊕◌, bit, xor}
 use Rattle.rules.specs.Fold.{Row, Term}
-use Rattle.rules.specs.Walk.{Step, cn, rot, Aim, free, on, owes, side, score, best, cross_terms, turns, leaf, aim_with, is_none, nonzero, phase_walk, Node, Visit, cross_nodes, open_node, visit_at, visit, walk, node}
+use Rattle.rules.specs.Walk.{Step, cn, rot, Aim, free, on, owes, side, score, best, cross_terms, turns, leaf, aim_with, is_none, nonzero, phase_walk, Node, Visit, cross_nodes, open_node, visit, walk, node}
 use Rattle.rules.specs.Order.{Shuffled, same, keep, swap, next, Stacked, none, more}
 use Rattle.rules.specs.Left.{pay}
 use Rattle.rules.specs.Synth.{synth}

@@ -2,19 +2,19 @@
 -- and what the pass is over the first five fields.
 use mathlib.Core.Path.{◌≡◌, refl, sym, ap, ap₂, ◌∙◌, subst}
 use mathlib.Core.Logic.{◌⊎◌, inl, inr}
-use mathlib.Core.Bool.{Bool, true, false, cond}
+use mathlib.Core.Bool.{true, cond}
 use mathlib.Core.List.{List, [], ◌∷◌, ◌++◌, map}
-use Prim.Native.Nat.{ℕ, zero, suc, ◌+◌, ◌<◌}
+use Prim.Native.Nat.{ℕ, zero, suc, ◌<◌}
 use native.Mathlib.Omega.{arith}
 use lib.ListN.{length, replicate}
 use Rattle.rules.specs.Gate.{Gate}
 use Rattle.rules.specs.Meaning.{Op, op}
 use Rattle.rules.specs.Stretch.{Stretchwise}
 use Rattle.rules.specs.Counts.{twos, ts, cheaper}
-use Rattle.rules.specs.Fold.{Block, empty, fold}
+use Rattle.rules.specs.Fold.{empty, fold}
 use Rattle.rules.specs.Synth.{block_of}
 use Rattle.rules.specs.Plan.{Plan}
-use Rattle.rules.specs.Scan.{takes, Piece, copied, block, closed, cut, pieces_of, Writer, Plain, Lawful, Sparing, replaces, chosen, Result, finish, pass_by}
+use Rattle.rules.specs.Scan.{takes, Piece, copied, block, closed, cut, pieces_of, Writer, Plain, Lawful, Sparing, replaces, chosen, finish, pass_by}
 use Rattle.rules.specs.Lines.{with_line, stamp, line_of, lined, lines, lines_after, LineIn, LinesFrom, Lining, unlined, five_of, Blind}
 use Rattle.rules.proofs.Bits.{split}
 use Rattle.rules.proofs.Emitting.{map_app}

@@ -1,9 +1,9 @@
 -- Steps as gates, part by part; and the steps of a closing map, which are CNOTs on the block's indices.
 use mathlib.Core.Path.{◌≡◌, refl, sym, ap, ◌∙◌, subst}
-use mathlib.Core.Bool.{Bool, true, false, cond}
+use mathlib.Core.Bool.{Bool, true, false}
 use mathlib.Core.List.{List, [], ◌∷◌, ◌++◌, map, reverse, reverse-cons, reverse-reverse, append_assoc}
-use mathlib.Core.Option.{Option, none, some}
-use Prim.Native.Nat.{ℕ, zero, suc, ◌+◌, ◌%◌, ◌<◌}
+use mathlib.Core.Option.{none, some}
+use Prim.Native.Nat.{ℕ, zero, suc, ◌%◌, ◌<◌}
 use native.Mathlib.Nat.{not-suc-le-zero, le_of_suc-le-suc}
 use native.Mathlib.Omega.{arith}
 use lib.ListN.{length, get_or}
@@ -11,7 +11,7 @@ use Rattle.rules.specs.Gate.{Gate, gate2, code_cnot}
 use Rattle.rules.specs.Bit.{dot}
 use Rattle.rules.specs.Counts.{twos}
 use Rattle.rules.specs.Walk.{Step, cn, rot}
-use Rattle.rules.specs.Close.{Adds, times, eq_rows, inverse, and_then, needed, reduce_from, closing}
+use Rattle.rules.specs.Close.{times, eq_rows, inverse, and_then, reduce_from, closing}
 use Rattle.rules.specs.Synth.{rotation, emit}
 use Rattle.rules.proofs.Walking.{Within, within-append}
 use Rattle.rules.proofs.Closing.{at, anywhere, Pure, closing-ok}

@@ -9,7 +9,7 @@ use lib.ListN.{length, take, drop, length-drop}
 use lib.Seq.{length-take-le, take_all, take-append-add, take_at, drop_at}
 use Rattle.rules.specs.Limits.{width}
 use Rattle.rules.specs.Gate.{Gate}
-use Rattle.rules.specs.Numbers.{gate_at, gates_from, gates_of, numbers, numbers_of}
+use Rattle.rules.specs.Numbers.{gate_at, gates_from, gates_of, numbers_of}
 use Rattle.rules.proofs.Reading.{from-append, from-length, length-numbers}
 use Rattle.flush.proofs.Runs.{exact-part, gates-part}
 use Rattle.scan.specs.Scanning.{gates_in, run, made}

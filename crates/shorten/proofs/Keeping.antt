@@ -1,17 +1,15 @@
 -- What is printed reads back, and keeps demand 3.
-use mathlib.Core.Path.{◌≡◌, refl, sym, ap, ◌∙◌}
-use mathlib.Core.Bool.{true, false, true≢false}
+use mathlib.Core.Path.{◌≡◌, sym, ap, ◌∙◌}
+use mathlib.Core.Bool.{false}
 use mathlib.Core.List.{List}
 use Prim.Native.Nat.{ℕ, ◌*◌, ◌≤◌}
 use native.Mathlib.Omega.{arith}
-use lib.Dec.{ltb}
 use lib.IntN.{ℤ}
 use lib.ListN.{length, take}
 use Rattle.rules.specs.Limits.{width}
 use Rattle.rules.specs.Numbers.{gates_of, numbers_of}
 use Rattle.rules.specs.Scan.{Result}
 use Rattle.rules.specs.Pass.{pass}
-use Rattle.rules.proofs.Bits.{split}
 use Rattle.rules.proofs.Resynthesis.{promised}
 use Rattle.cnot_min.specs.declared.Counts.{Counts}
 use Rattle.spelling.specs.Sizes.{list_bytes, list_gates}
@@ -22,10 +20,10 @@ use Rattle.saying.specs.declared.Said.{Said}
 use Rattle.saying.proofs.Saying.{says-shown}
 use Rattle.fitting.specs.Clauses.{Made}
 use Rattle.fitting.proofs.Made.{same-result}
-use Rattle.qasm.specs.Import.{Import, wrong, many, large, list, read_qasm}
+use Rattle.qasm.specs.Import.{list, read_qasm}
 use Rattle.qasm.specs.Export.{qasm_text}
 use Rattle.qasm.proofs.Trips.{import-export, export-import}
-use Rattle.import.specs.Answer.{head_for, read_as, answer_by}
+use Rattle.import.specs.Answer.{head_for}
 use Rattle.import.proofs.Taking.{answer-kept}
 use Rattle.shorten.specs.Answer.{shortened, answer}
 use Rattle.shorten.specs.Clauses.{Kept, Shortens}

@@ -1,22 +1,22 @@
 -- What the pass makes of a list that came from a laboratory's text is spelled: the gates that it copies were read, and those of the fragment all have a spelling.
-use mathlib.Core.Path.{◌≡◌, refl, sym, ap, subst, ◌∙◌}
-use mathlib.Core.Bool.{Bool, true, false, cond, true≢false}
-use mathlib.Core.List.{List, []}
-use Prim.Native.Nat.{ℕ, zero, suc, ◌+◌, ◌*◌, ◌/◌, ◌≤◌, ◌<◌}
+use mathlib.Core.Path.{◌≡◌, refl, sym, ◌∙◌}
+use mathlib.Core.Bool.{true}
+use mathlib.Core.List.{List}
+use Prim.Native.Nat.{ℕ, zero, suc, ◌/◌, ◌≤◌}
 use native.Mathlib.Nat.{zero-add}
 use native.Mathlib.Omega.{arith}
 use lib.IntN.{ℤ}
 use lib.ListN.{length}
-use Rattle.rules.specs.Limits.{width, max_gates}
+use Rattle.rules.specs.Limits.{width}
 use Rattle.rules.specs.Gate.{Gate}
-use Rattle.rules.specs.Numbers.{nat_of, field, gate_at, gates_of, numbers_of}
+use Rattle.rules.specs.Numbers.{gate_at, gates_of, numbers_of}
 use Rattle.rules.specs.Refusal.{accepted}
 use Rattle.rules.specs.Pass.{pass}
 use Rattle.rules.proofs.Reading.{length-numbers, read-written}
 use Rattle.spelling.specs.Sizes.{list_gates}
 use Rattle.saying.specs.Answer.{exact}
 use Rattle.saying.proofs.Checking.{right-exact}
-use Rattle.fitting.proofs.Each.{Each, Plain, each-gates, gates-each, each-pass}
+use Rattle.fitting.proofs.Each.{Each, each-gates, gates-each, each-pass}
 use Rattle.fitting.proofs.Made.{made-right, made-few, made-ranged}
 use Rattle.qasm.specs.Table.{spelled}
 use Rattle.qasm.specs.Export.{unspelled}

@@ -6,7 +6,7 @@ use lib.IntN.{ℤ, pos, negsuc}
 use Rattle.text.specs.Bytes.{bytes}
 use Rattle.text.specs.Reading.{word, ended, natural_line, count_line}
 use Rattle.spelling.specs.Texts.{Form, four, five, six, Head, list_text, result_text, refusal_text}
-use Rattle.spelling.specs.Reading.{list, wrong, read, malformed, many, head_at, rows, list_at, read_text}
+use Rattle.spelling.specs.Reading.{list, read, malformed, many, head_at, rows, list_at, read_text}
 
 -- one wire, in the three forms
 abbrev one : Form → Head

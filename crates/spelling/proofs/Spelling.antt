@@ -16,11 +16,11 @@ use Rattle.rules.specs.Limits.{width}
 use Rattle.rules.proofs.Bits.{split, same}
 use Rattle.text.specs.Bytes.{lf, blank, is_digit}
 use Rattle.text.specs.Printing.{ended_text, line_text, named_text}
-use Rattle.text.specs.Reading.{Found, none, found, onward, largest, word, ended, natural_line, count_line}
-use Rattle.text.proofs.Lines.{absent, read_word, word_read, read-ended, ended-read, read-line, line_read, read_count, count-read}
+use Rattle.text.specs.Reading.{Found, none, found, onward, largest, ended, natural_line, count_line}
+use Rattle.text.proofs.Lines.{absent, read-ended, ended-read, read-line, line_read, read_count, count-read}
 use Rattle.spelling.specs.Lines.{Lines, bad, good, line}
 use Rattle.spelling.specs.Texts.{lines_text, row_text, Form, four, five, six, per_gate, unsaid, fifth, form_of, rows_text, Head, head_numbers, head_lines, head_word, head_text, gates_word, gates_text, list_text}
-use Rattle.spelling.specs.Reading.{Row, row, gate_row, Rows, rows, Front, wrong, large, list, malformed, many, read, such, head_line, form_line, head_at, gathered, counted, headed, list_at, ending, read_text}
+use Rattle.spelling.specs.Reading.{Row, row, gate_row, Rows, rows, Front, wrong, large, list, read, such, head_line, form_line, head_at, gathered, counted, headed, list_at, ending, read_text}
 use Rattle.spelling.proofs.Forms.{per-gate-le, all_said, Shown}
 
 -- ---- what a list's text can hold

@@ -14,7 +14,7 @@ use Rattle.rules.proofs.Bits.{split}
 use Rattle.text.specs.Reading.{Found, none, found, count_line}
 use Rattle.spelling.specs.Lines.{Lines, bad, good}
 use Rattle.spelling.specs.Texts.{Head, head_lines, head_text, gates_word}
-use Rattle.spelling.specs.Reading.{head_at, rows, Front, wrong, large, list, Read, malformed, many, read, gathered, counted, headed, list_at, ending, read_text}
+use Rattle.spelling.specs.Reading.{head_at, rows, Front, wrong, large, list, many, read, gathered, counted, headed, list_at, ending, read_text}
 use Rattle.spelling.proofs.Spelling.{head_read, text-read}
 
 pub three-or-gates : (most : ℕ) (bs : List ℕ) (h : Head) (ns : List ℤ) → most ≤ max_gates → read_text most bs ≡ read h ns

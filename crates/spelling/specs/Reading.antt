@@ -1,7 +1,7 @@
 -- The text of a list, line by line: `head 4` or `head 5` and its numbers, `gates` and its count, a line for each gate, and the end.
 use Rattle.std.specs.Prelude.{Bool, ◌||◌, cond, List, [], ◌∷◌, ◌++◌, ℕ, zero, suc, ◌+◌, ◌-◌, eqb, ltb, ℤ}
 use Rattle.text.specs.Bytes.{lf, blank}
-use Rattle.text.specs.Reading.{Found, none, found, onward, word, ended, natural_line, count_line}
+use Rattle.text.specs.Reading.{Found, none, found, onward, ended, natural_line, count_line}
 use Rattle.spelling.specs.Lines.{Lines, bad, good, line}
 use Rattle.spelling.specs.Texts.{per_gate, unsaid, form_of, Form, Head, head_word, gates_word}
 

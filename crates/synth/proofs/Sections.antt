@@ -1,26 +1,22 @@
 -- A block by its rooms: its names, its parities and its constants; and its resynthesis in three parts, which may stop after each.
 use mathlib.Core.Path.{◌≡◌, refl, sym, ap, ap₂, ◌∙◌, subst}
 use mathlib.Core.Bool.{Bool, true, false, true≢false}
-use mathlib.Core.List.{List, [], ◌∷◌, ◌++◌, map, append_assoc}
+use mathlib.Core.List.{List, ◌∷◌, ◌++◌, map, append_assoc}
 use mathlib.Core.Option.{Option, none, some, none-ne-some, some-injective}
-use Prim.Native.Nat.{ℕ, zero, suc, ◌+◌, ◌-◌, ◌*◌, ◌^◌, ◌≤◌}
+use Prim.Native.Nat.{ℕ, zero, suc, ◌+◌}
 use native.Mathlib.Omega.{arith}
 use lib.IntN.{ℤ}
-use lib.ListN.{length, get_or, take, drop, length-take}
+use lib.ListN.{length, get_or, drop}
 use lib.Seq.{drop-cons, drop-length}
 use Rattle.rules.specs.Bit.{bit}
 use Rattle.rules.specs.Gate.{Gate, gate1, code_x}
 use Rattle.rules.specs.Fold.{Row, Term, Block}
-use Rattle.rules.specs.Walk.{Step, free, nonzero, phase_walk, held, node}
+use Rattle.rules.specs.Walk.{Step, phase_walk, held}
 use Rattle.rules.specs.Close.{units, closing}
 use Rattle.rules.specs.Synth.{emit, flips_of, with_steps, synth}
 use Rattle.rules.specs.Budget.{Budget}
-use Rattle.rules.specs.Left.{left}
 use Rattle.rules.proofs.Bits.{split}
-use Rattle.rules.proofs.Visiting.{left-first}
 use Rattle.rules.proofs.Steps.{emit-append}
-use Rattle.terms.specs.Terms.{terms_of, Begins}
-use Rattle.terms.proofs.Room.{room_take}
 use Rattle.emit.specs.Emitted.{Emits}
 use Rattle.emit.proofs.Appending.{emits_then, emits-stop}
 use Rattle.closing.specs.Emission.{Closes}

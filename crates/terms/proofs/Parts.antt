@@ -2,17 +2,15 @@
 --     part-terms    the terms of the part
 --     part-back     the terms of the room when it is back
 --     part-split    where it comes back split
-use mathlib.Core.Path.{◌≡◌, sym, ap, ap₂, ◌∙◌}
-use mathlib.Core.Bool.{true}
+use mathlib.Core.Path.{◌≡◌, ap, ap₂, ◌∙◌}
 use mathlib.Core.List.{List, ◌++◌}
 use Prim.Native.Nat.{ℕ, ◌+◌, ◌-◌, ◌*◌, ◌≤◌}
 use native.Mathlib.Omega.{arith}
-use lib.ListN.{length, take, drop, length-drop, take-append-drop}
+use lib.ListN.{length, take, drop, length-drop}
 use lib.Seq.{drop-drop, length-take-le}
 use borrow.Rule.Slice.PartMut.{put_mid}
 use Rattle.rules.specs.Fold.{Term}
-use Rattle.rules.specs.Walk.{side}
-use Rattle.terms.specs.Terms.{terms_of, Begins, Sides, SplitAt}
+use Rattle.terms.specs.Terms.{terms_of, Sides, SplitAt}
 use Rattle.terms.proofs.Room.{room-length, room_take, room_drop, room-append}
 
 module _ (from to : ℕ) (xs : List ℕ) (l : from ≤ to) (m : to ≤ length (terms_of xs)) where

@@ -2,7 +2,7 @@
 use mathlib.Core.Path.{◌≡◌, refl, ap, ◌∙◌}
 use mathlib.Core.Bool.{true, false, ◌&&◌, false≢true}
 use mathlib.Core.List.{List, [], ◌∷◌, ◌++◌, append-nil}
-use Prim.Native.Nat.{ℕ, zero, suc, ◌+◌, ◌≤◌}
+use Prim.Native.Nat.{ℕ, zero, suc, ◌≤◌}
 use native.Mathlib.Omega.{arith}
 use borrow.Author.Tests.{le-leb, leb-true, eqb-true, ne_eqb}
 use lib.Dec.{eqb, leb}
@@ -12,7 +12,7 @@ use lib.ListN.{length, drop}
 use lib.Seq.{drop-append_seam}
 use Rattle.rules.proofs.Bits.{split, and_left, and_right}
 use Rattle.text.specs.Bytes.{minus, is_digit, first}
-use Rattle.text.specs.Printing.{digit, decimal, printed}
+use Rattle.text.specs.Printing.{decimal, printed}
 use Rattle.text.specs.Reading.{Found, none, found, digits, worth, proper, up_to, largest, positive, negative, integer}
 use Rattle.text.proofs.Decimals.{Digital, decimal-some, digital-decimal, worth-decimal, proper-decimal, decimal-proper}
 

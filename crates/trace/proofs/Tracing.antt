@@ -2,7 +2,7 @@
 use mathlib.Core.Path.{◌≡◌, refl, sym, ap, ◌∙◌}
 use mathlib.Core.Bool.{true, false}
 use mathlib.Core.List.{List, [], ◌∷◌, ◌++◌, map, append-nil}
-use Prim.Native.Nat.{ℕ, zero, suc, ◌+◌, ◌-◌, ◌*◌, ◌/◌, ◌≤◌, ◌<◌}
+use Prim.Native.Nat.{ℕ, suc, ◌+◌, ◌-◌, ◌*◌, ◌/◌, ◌≤◌, ◌<◌}
 use native.Mathlib.Omega.{arith}
 use lib.IntN.{ℤ, pos}
 use lib.ListN.{length, get_or, take, drop, replicate, length-drop, length-replicate}
@@ -26,7 +26,6 @@ use Rattle.cnot_min.proofs.Rooms.{scannable, rewritable}
 use Rattle.spelling.specs.Sizes.{list_gates}
 use Rattle.spelling.specs.Texts.{Head}
 use Rattle.saying.specs.Answer.{exact}
-use Rattle.saying.specs.Clauses.{Few}
 use Rattle.saying.proofs.Checking.{exact-fits, right-exact}
 use Rattle.fitting.specs.Clauses.{Made}
 use Rattle.fitting.proofs.Made.{made-few}
@@ -34,7 +33,7 @@ use Rattle.scan.specs.Scanning.{gates_in, run, rest, Foldable, Scannable}
 use Rattle.scan.proofs.Folding.{rest-none}
 use Rattle.scan.proofs.Pieces.{rows-wide}
 use Rattle.scan.proofs.Writing.{part}
-use Rattle.origin.specs.Origins.{Origin, kept, made, last_from, last_line, origins, origins_text}
+use Rattle.origin.specs.Origins.{kept, made, last_from, last_line, origins, origins_text}
 use Rattle.origin.specs.Clauses.{rows_text}
 use Rattle.origin.proofs.Origins.{text-append, made-rows, kept-rows, last_snoc}
 use Rattle.trace.specs.Clauses.{Right, Single, Cuts}

@@ -1,6 +1,5 @@
 -- What the crate's functions ask and say.
-use Rattle.std.specs.Prelude.{◌≡◌, List, [], ◌∷◌, ℕ, ◌*◌, ◌≤◌, ◌<◌, ℤ, length}
-use Rattle.rules.specs.Limits.{width}
+use Rattle.std.specs.Prelude.{◌≡◌, List, [], ◌∷◌, ℕ, ◌*◌, ◌≤◌, ◌<◌, ℤ}
 use Rattle.rules.specs.Gate.{Gate}
 use Rattle.rules.specs.Refusal.{accepted}
 use Rattle.rules.specs.Plan.{Plan}

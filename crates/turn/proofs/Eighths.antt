@@ -1,8 +1,7 @@
 -- A signed number divided by 8, as the machine does it, and `turn8`.
-use Rattle.std.proofs.Common.{◌≡◌, ℕ, zero, suc, ◌-◌, ◌/◌, ◌%◌, ◌<◌, ◌≤◌, Bool, true, false, ℤ, pos, negsuc, ◌+ℤ◌, neg_ℤ, sym, refl, ap, ◌∙◌, div-le_self, arith, ltb-true, le-ltb}
+use Rattle.std.proofs.Common.{◌≡◌, ℕ, zero, suc, ◌-◌, ◌/◌, ◌%◌, ◌<◌, ◌≤◌, true, false, ℤ, pos, negsuc, ◌+ℤ◌, neg_ℤ, sym, refl, ap, ◌∙◌, div-le_self, arith, ltb-true, le-ltb}
 use lib.Signed.{mag, lt_z, rem_z, quot_z}
 use Rattle.rules.specs.Meaning.{turn8}
-use Rattle.rules.specs.Fold.{signed}
 
 -- a quotient is no larger than what was divided
 pub mag-quot : (z : ℤ) (d : ℕ) → mag (quot_z z (pos d)) ≤ mag z

@@ -1,0 +1,28 @@
+-- `marks::mark_out` meets its contract: every number of the room gets its mark.
+use mathlib.Core.Path.{◌≡◌, refl}
+use native.Mathlib.Omega.{arith}
+use borrow.Author.Tests.{le-ltb}
+use lib.IntN.{pos}
+use lib.ListN.{length-set}
+use mir.Syntax.{w32}
+use mir.Val.{to_z, of_z}
+use mir.ValLaws.{to_z-of_z}
+use Rattle.rules.proofs.Filling.{upto_next}
+use Rattle.marks.specs.Marks.{out_mark}
+use Rattle.marks.proofs.mark_out.Goals as goal
+
+pub loop-i-init : goal.loop-i-init
+loop-i-init c = (omega arith, refl, λ i h. absurd (omega arith))
+
+pub loop-i-preserved : goal.loop-i-preserved
+loop-i-preserved c =
+    let at = c.loop-i in
+    let e : c.due_out.result ≡ out_mark at.i = rw (le-ltb at.i 0 (omega arith)) at c.due_out.ensures in
+    let f : to_z w32 (of_z w32 (out_mark at.i)) ≡ out_mark at.i = to_z-of_z w32 (out_mark at.i) (record { sfits = omega arith }) in
+    (omega arith, simp length-set at.invariant.1, upto_next out_mark (pos 0) at.room at.i _ (omega arith) (rw e f) at.invariant.2)
+
+pub shape_of-room : goal.shape_of-room
+shape_of-room c = c.loop-i.invariant.1
+
+pub returns : goal.returns
+returns c = λ i h. c.loop-i.invariant.2 i (omega arith)

@@ -1,0 +1,13 @@
+-- `marks::mark_steps` meets its contract: every number of the room gets its mark.
+use mathlib.Core.Path.{◌≡◌}
+use Prim.Native.Nat.{◌≤◌, ◌-◌}
+use lib.ListN.{length}
+use Rattle.rules.proofs.Filling.{Upto}
+use Rattle.marks.specs.Marks.{step_mark}
+use Rattle.marks.proofs.mark_steps.Given as goal
+
+abbrev pub invariant-loop-i : goal.invariant-loop-i
+invariant-loop-i l = (l.i ≤ length l.initial.room) × (length l.room ≡ length l.initial.room) × Upto step_mark 0 l.room l.i
+
+abbrev pub decreases-loop-i : goal.decreases-loop-i
+decreases-loop-i l = length l.initial.room - l.i

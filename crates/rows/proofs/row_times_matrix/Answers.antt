@@ -1,0 +1,71 @@
+-- `rows::row_times_matrix` meets its contract. The loop's invariant: what is added already, with what the columns left give, is the whole product.
+-- The measure is the columns left, as a number.
+use mathlib.Core.Path.{◌≡◌, sym, ap, ◌∙◌}
+use Prim.Native.Nat.{◌<◌}
+use native.Mathlib.Nat.{le_refl, le_trans, lt_of_le_of_lt, pos_of_ne-zero}
+use native.Mathlib.Omega.{arith}
+use borrow.Author.Tests.{eqb-true, eqb-false}
+use lib.ListN.{get_or}
+use Rattle.rules.specs.Bit.{xor}
+use Rattle.rules.specs.Close.{times}
+use Rattle.parity.specs.Columns.{clear_lowest, Lowest}
+use Rattle.parity.specs.View.{val}
+use Rattle.parity.proofs.Laws.{xor_zero_l, xor_zero_r, xor_assoc, clear-lt, clear-le}
+use Rattle.rows.specs.Rows.{rows_of}
+use Rattle.rows.proofs.Sums.{times-lowest, times_zero, lowest-lt}
+use Rattle.rows.proofs.row_times_matrix.Goals as goal
+use Rattle.rows.proofs.row_times_matrix.Goals.{After-lowest-at, In-loop-left}
+
+-- a column is left
+some : (c : In-loop-left) → 0 < val c.loop-left.left
+some c =
+    pos_of_ne-zero (eqb-false (val c.loop-left.left) 0 (sym c.is_zero.ensures ∙ c.loop-left-test.true))
+
+-- the lowest, which is a row's
+low : (c : After-lowest-at) → 0 < val c.loop-left.left → Lowest (val c.loop-left.left) c.lowest-at.result
+low c h = c.lowest-at.ensures.low h
+
+pub zero-sum-requires : goal.zero-sum-requires
+zero-sum-requires c = tt
+
+pub loop-left-init : goal.loop-left-init
+loop-left-init c = (le_refl _, rw c.zero-sum.ensures (xor_zero_l _))
+
+pub is_zero-requires : goal.is_zero-requires
+is_zero-requires c = tt
+
+pub clear_lowest-rest-requires : goal.clear_lowest-rest-requires
+clear_lowest-rest-requires c = tt
+
+pub lowest-at-requires : goal.lowest-at-requires
+lowest-at-requires c = tt
+
+pub overflow_cast-at : goal.overflow_cast-at
+overflow_cast-at c = omega (arith, c.lowest-at.ensures.small (some (goal.at.overflow_cast-at c).In-loop-left))
+
+pub get-requires : goal.get-requires
+get-requires c = lowest-lt _ _ (low (goal.at.get-requires c).After-lowest-at (some (goal.at.get-requires c).In-loop-left)) _ (lt_of_le_of_lt c.loop-left.invariant.0 c.requires)
+
+pub xor-sum-requires : goal.xor-sum-requires
+xor-sum-requires c = tt
+
+pub loop-left-smaller : goal.loop-left-smaller
+loop-left-smaller c = rw c.clear_lowest-rest.ensures (clear-lt _ (some (goal.at.loop-left-smaller c).In-loop-left))
+
+pub loop-left-preserved : goal.loop-left-preserved
+loop-left-preserved c =
+    let l = c.loop-left in
+    let m = rows_of c.args.m.now in
+    let x = get_or m c.lowest-at.result 0 in
+    rw (c.clear_lowest-rest.ensures, c.xor-sum.ensures, c.get.ensures) (
+      le_trans (clear-le (val l.left)) l.invariant.0,
+      xor_assoc (val l.sum) x (times (clear_lowest (val l.left)) 0 m)
+          ∙ ap (xor (val l.sum)) (sym (times-lowest _ _ (low (goal.at.loop-left-preserved c).After-lowest-at (some (goal.at.loop-left-preserved c).In-loop-left)) m)) ∙ l.invariant.1,
+    )
+
+pub returns : goal.returns
+returns c =
+    let l = c.loop-left in
+    let m = rows_of c.args.m.now in
+    let z : val l.left ≡ 0 = eqb-true (val l.left) 0 (sym c.is_zero.ensures ∙ c.loop-left-test.false) in
+    sym (xor_zero_r (val l.sum)) ∙ ap (xor (val l.sum)) (sym (rw z (times_zero 0 m))) ∙ l.invariant.1
