@@ -1,14 +1,16 @@
 // Alike: reads two lists from standard input, one behind the other, and prints whether they act alike, or the refusal. Neither is seen by an exit
 // status, but by what is printed.
-use libc::{STDIN_FILENO, STDOUT_FILENO};
+#![tactic(auto)]
+
 use spelling::{ANSWER_BYTES, LIST_BYTES};
+use std::io;
 
 // One byte more than a text may have, so that a longer one shows; the rest of it is not read.
-fn main() {
+fn main(rt: HostRuntime) -> io::Result<()> {
     let mut text = [0u8; LIST_BYTES + 1];
-    let n = io::read_full(STDIN_FILENO, &mut text);
+    let n = streams::read_full(&mut rt.stdin(), &mut text)?;
     let mut out = [0u8; ANSWER_BYTES];
     let r = pair::pair(&text[..n], &mut out);
     let length = r.length;
-    io::write_all(STDOUT_FILENO, &out[..length]);
+    rt.write_all(&out[..length])
 }

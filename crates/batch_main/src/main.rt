@@ -4,15 +4,18 @@
 // 32 bits a number. It ends where the input does, or at a list or a room longer than its own.
 // An answer, 32 bits a number: the refusal's number or 0; the sum of 1, 2 and 4 for the output, term and step rooms that are as promised; then the
 // place and the field of a refusal, or the eight counts and the new gates.
-ghost use Rattle.std.specs.Prelude.{◌≡◌, true, ◌+◌, ◌*◌, ◌≤◌, ◌<◌, length};
+#![tactic(auto)]
+
+ghost use Rattle.std.specs.Prelude.{◌≡◌, true, ◌+◌, ◌*◌, ◌≤◌, ◌<◌, length, IfOk, OnErr};
 ghost use Rattle.flow.specs.Flowing.{Held};
 ghost use Rattle.batch_main.specs.Cases.{most_gates, most_numbers, most_terms, most_steps, Small, Taken};
 
 use cnot_min::{Answer, Counts};
 use flow::Flow;
 use gate::Refusal;
-use libc::STDOUT_FILENO;
 use rules::{GATE_TERMS, GATE_WIDTH, MAX_COLUMNS, STEP_WIDTH, TERM_WIDTH};
+use std::io;
+use std::io::{Read, Write};
 
 // Some more than 8,192 gates, and the rooms that so many need. A list of 65,536 and its rooms would be more than the usual stack.
 const MOST_GATES: usize = 10900;
@@ -30,7 +33,7 @@ const OUTPUT: usize = 65536;
 
 const HEAD: usize = 72;
 
-#[derive(Drop)]
+#[derive(Clone, Copy)]
 struct Case {
     wires: usize,
     bits: usize,
@@ -44,7 +47,7 @@ struct Case {
 }
 
 // A case and the flow that its list waits in; a flow with 0 left where there is none.
-#[derive(Drop)]
+#[derive(Clone, Copy)]
 struct Ready {
     case: Case,
     flow: Flow,
@@ -69,7 +72,8 @@ fn case_at(bytes: &[u8]) -> Case
 }
 
 // A refusal, which leaves every room as it was.
-fn tell_refused(
+fn tell_refused<W: Write>(
+    writer: &mut W,
     r: Refusal,
     out: &[i32],
     terms: &[u64],
@@ -77,9 +81,10 @@ fn tell_refused(
     output: &mut [u8],
     used: usize,
     ask: usize,
-) -> usize
+) -> io::Result<usize>
     requires { (used ≤ length output.old) × (4 ≤ length output.old) }
-    ensures { result ≤ length output.old }
+    ensures ok { IfOk result (λ end. end ≤ length output.old) }
+    ensures err { OnErr result (length output.new ≡ length output.old) }
 {
     let right = marks::rooms_right(
         marks::out_right(out, 0, ask % 2),
@@ -87,11 +92,12 @@ fn tell_refused(
         marks::steps_right(steps, ask / 4 % 2),
     );
     let told = [r.number as usize, right, r.place, r.field as usize];
-    flow::put_counts(output, used, &told)
+    flow::put_counts(writer, output, used, &told)
 }
 
 // The counts and the new gates of a list of g gates, which leaves 0 behind them and in the part of the work rooms that it needs.
-fn tell_done(
+fn tell_done<W: Write>(
+    writer: &mut W,
     c: Counts,
     g: usize,
     out: &[i32],
@@ -100,10 +106,11 @@ fn tell_done(
     output: &mut [u8],
     used: usize,
     ask: usize,
-) -> usize
+) -> io::Result<usize>
     requires g_le_most_gates { g ≤ most_gates }
     requires used_in_bounds { (used ≤ length output.old) × (4 ≤ length output.old) }
-    ensures { result ≤ length output.old }
+    ensures ok { IfOk result (λ end. end ≤ length output.old) }
+    ensures err { OnErr result (length output.new ≡ length output.old) }
 {
     let end = flow::least(GATE_WIDTH * flow::least(c.gatesout, g), out.len());
     let right = marks::rooms_right(
@@ -114,11 +121,12 @@ fn tell_done(
     let told = [
         0, right, c.gatesin, c.gatesout, c.twosin, c.twosout, c.tin, c.tout, c.blocks, c.replaced,
     ];
-    let at = flow::put_counts(&mut *output, used, &told);
-    flow::put_numbers(output, at, &out[..end])
+    let at = flow::put_counts(writer, &mut *output, used, &told)?;
+    flow::put_numbers(writer, output, at, &out[..end])
 }
 
-fn tell(
+fn tell<W: Write>(
+    writer: &mut W,
     a: Answer,
     g: usize,
     out: &[i32],
@@ -127,19 +135,21 @@ fn tell(
     output: &mut [u8],
     used: usize,
     ask: usize,
-) -> usize
+) -> io::Result<usize>
     requires g_le_most_gates { g ≤ most_gates }
     requires used_in_bounds { (used ≤ length output.old) × (4 ≤ length output.old) }
-    ensures { result ≤ length output.old }
+    ensures ok { IfOk result (λ end. end ≤ length output.old) }
+    ensures err { OnErr result (length output.new ≡ length output.old) }
 {
     match a {
-        Answer::Refused(r) => tell_refused(r, out, terms, steps, output, used, ask),
-        Answer::Done(c) => tell_done(c, g, out, terms, steps, output, used, ask),
+        Answer::Refused(r) => tell_refused(writer, r, out, terms, steps, output, used, ask),
+        Answer::Done(c) => tell_done(writer, c, g, out, terms, steps, output, used, ask),
     }
 }
 
 // The answer to a case whose list and rooms are lent as exact parts.
-fn answer(
+fn answer<W: Write>(
+    writer: &mut W,
     list: &[i32],
     c: Case,
     out: &mut [i32],
@@ -147,10 +157,11 @@ fn answer(
     steps: &mut [u32],
     output: &mut [u8],
     used: usize,
-) -> usize
+) -> io::Result<usize>
     requires list_len_bound { length list.now ≤ most_numbers }
     requires used_in_bounds { (used ≤ length output.old) × (4 ≤ length output.old) }
-    ensures { result ≤ length output.old }
+    ensures ok { IfOk result (λ end. end ≤ length output.old) }
+    ensures err { OnErr result (length output.new ≡ length output.old) }
 {
     marks::mark_out(&mut *out);
     marks::mark_terms(&mut *terms);
@@ -166,6 +177,7 @@ fn answer(
         &mut *steps,
     );
     tell(
+        writer,
         a,
         list.len() / GATE_WIDTH,
         &*out,
@@ -222,38 +234,54 @@ fn none(f: Flow) -> Ready
 }
 
 // The case whose head was read, once its list is there.
-fn take_list(input: &mut [u8], output: &[u8], c: Case, f: Flow) -> Ready
+fn take_list<R: Read, W: Write>(
+    reader: &mut R,
+    writer: &mut W,
+    input: &mut [u8],
+    output: &[u8],
+    c: Case,
+    f: Flow,
+) -> io::Result<Ready>
     requires { Held f (length input.old) (length output.now) × Small c }
-    ensures { Taken result f (length input.old) (length output.now) }
+    ensures ok { IfOk result (λ r. Taken r f (length input.old) (length output.now)) }
+    ensures err { OnErr result (length input.new ≡ length input.old) }
 {
     let whole = HEAD + 4 * c.list;
-    let b = flow::fill(input, output, f, whole);
+    let b = flow::fill(reader, writer, input, output, f, whole)?;
     if b.end - b.at < whole {
-        return none(b);
+        return Ok(none(b));
     }
-    Ready { case: c, flow: b }
+    Ok(Ready { case: c, flow: b })
 }
 
 // The next case, if there is one that the program has room for.
-fn take(input: &mut [u8], output: &[u8], f: Flow) -> Ready
+fn take<R: Read, W: Write>(
+    reader: &mut R,
+    writer: &mut W,
+    input: &mut [u8],
+    output: &[u8],
+    f: Flow,
+) -> io::Result<Ready>
     requires { Held f (length input.old) (length output.now) }
-    ensures { Taken result f (length input.old) (length output.now) }
+    ensures ok { IfOk result (λ r. Taken r f (length input.old) (length output.now)) }
+    ensures err { OnErr result (length input.new ≡ length input.old) }
 {
-    let h = flow::fill(&mut *input, output, f, HEAD);
+    let h = flow::fill(reader, writer, &mut *input, output, f, HEAD)?;
     let at = h.at;
     let end = h.end;
     if end - at < HEAD {
-        return none(h);
+        return Ok(none(h));
     }
     let c = case_at(&input[at..at + HEAD]);
     if within(c) {
-        return take_list(input, output, c, h);
+        return take_list(reader, writer, input, output, c, h);
     }
-    none(h)
+    Ok(none(h))
 }
 
 // The answer to a case whose list is these bytes, in the parts of the rooms that it names.
-fn solve(
+fn solve<W: Write>(
+    writer: &mut W,
     c: Case,
     bytes: &[u8],
     list: &mut [i32],
@@ -262,15 +290,17 @@ fn solve(
     steps: &mut [u32],
     output: &mut [u8],
     used: usize,
-) -> usize
+) -> io::Result<usize>
     requires small { Small c × (4 * c.list ≤ length bytes.now) }
     requires most_numbers_in_bounds { (most_numbers ≤ length list.old) × ((most_numbers ≤ length out.old) × ((most_terms ≤ length terms.old) × (most_steps ≤ length steps.old))) }
     requires used_in_bounds { (used ≤ length output.old) × (4 ≤ length output.old) }
-    ensures { result ≤ length output.old }
+    ensures ok { IfOk result (λ end. end ≤ length output.old) }
+    ensures err { OnErr result (length output.new ≡ length output.old) }
 {
     let n = c.list;
     flow::load(bytes, &mut list[..n]);
     answer(
+        writer,
         &list[..n],
         c,
         &mut out[..c.out],
@@ -282,7 +312,9 @@ fn solve(
 }
 
 // One case, if there is one.
-fn next(
+fn next<R: Read, W: Write>(
+    reader: &mut R,
+    writer: &mut W,
     input: &mut [u8],
     list: &mut [i32],
     out: &mut [i32],
@@ -290,30 +322,43 @@ fn next(
     steps: &mut [u32],
     output: &mut [u8],
     f: Flow,
-) -> Flow
+) -> io::Result<Flow>
     requires held { Held f (length input.old) (length output.old) × (0 < f.left) }
     requires most_numbers_in_bounds { (most_numbers ≤ length list.old) × ((most_numbers ≤ length out.old) × ((most_terms ≤ length terms.old) × (most_steps ≤ length steps.old))) }
     requires in_bounds { 4 ≤ length output.old }
-    ensures { Held result (length input.old) (length output.old) × (result.left < f.left) }
+    ensures ok { IfOk result (λ g. Held g (length input.old) (length output.old) × (g.left < f.left)) }
+    ensures err { OnErr result ((length input.new ≡ length input.old) × (length output.new ≡ length output.old)) }
 {
-    let r = take(&mut *input, &*output, f);
+    let r = take(reader, writer, &mut *input, &*output, f)?;
     let c = r.case;
     let b = r.flow;
     if b.left == 0 {
-        return b;
+        return Ok(b);
     }
     let from = b.at + HEAD;
     let to = from + 4 * c.list;
-    let used = solve(c, &input[from..to], list, out, terms, steps, output, b.used);
-    Flow {
+    let used = solve(
+        writer,
+        c,
+        &input[from..to],
+        list,
+        out,
+        terms,
+        steps,
+        output,
+        b.used,
+    )?;
+    Ok(Flow {
         at: to,
         end: b.end,
         used,
         left: b.left - 1,
-    }
+    })
 }
 
-fn main() {
+fn main(rt: HostRuntime) -> io::Result<()> {
+    let mut stdin = rt.stdin();
+    let mut stdout = rt.stdout();
     let mut input = [0u8; INPUT];
     let mut list = [0i32; MOST_NUMBERS];
     let mut out = [0i32; MOST_NUMBERS];
@@ -328,6 +373,8 @@ fn main() {
     };
     while 0 < f.left {
         f = next(
+            &mut stdin,
+            &mut stdout,
             &mut input,
             &mut list,
             &mut out,
@@ -335,8 +382,8 @@ fn main() {
             &mut steps,
             &mut output,
             f,
-        );
+        )?;
     }
     let used = f.used;
-    io::write_all(STDOUT_FILENO, &output[..used]);
+    stdout.write_all(&output[..used])
 }

@@ -2,10 +2,12 @@
 // one furthest from even and the one with the larger side, both found here in another way. A line for each size of a set: the size, how often each of
 // the columns 0 to 3 was chosen by all four, and how often the four were not the same. `oracle/columns` makes the same lines by the paper's sentence.
 // A set is a number of 16 bits, bit v for the parity v. All 16 parities are taken, 0 too: no contract asks that a parity is another.
+#![tactic(auto)]
+
 ghost use Rattle.std.specs.Prelude.{◌≡◌, ◌<◌, ◌≤◌, max, length};
 
-use libc::STDOUT_FILENO;
 use parity::Parity;
+use std::io;
 
 // The parities that have a column, as a set.
 fn having(column: u64) -> u64 {
@@ -143,24 +145,23 @@ fn tally(terms: &[u64], set: u64, counts: &mut [u64; 85], from: usize)
     }
 }
 
-fn cell(n: u64) {
-    io::write_all(STDOUT_FILENO, b" ");
-    io::print_decimal(STDOUT_FILENO, n);
+fn cell(rt: &impl Print, n: u64) -> io::Result<()> {
+    print!(rt; " {n}")
 }
 
-fn line(size: usize, counts: &[u64; 85])
+fn line(rt: &impl Print, size: usize, counts: &[u64; 85]) -> io::Result<()>
     requires { size ≤ 16 }
 {
-    io::print_decimal(STDOUT_FILENO, size as u64);
-    cell(counts[5 * size]);
-    cell(counts[5 * size + 1]);
-    cell(counts[5 * size + 2]);
-    cell(counts[5 * size + 3]);
-    cell(counts[5 * size + 4]);
-    io::write_all(STDOUT_FILENO, b"\n");
+    print!(rt; "{size}")?;
+    cell(rt, counts[5 * size])?;
+    cell(rt, counts[5 * size + 1])?;
+    cell(rt, counts[5 * size + 2])?;
+    cell(rt, counts[5 * size + 3])?;
+    cell(rt, counts[5 * size + 4])?;
+    println!(rt;)
 }
 
-fn main() {
+fn main(rt: HostRuntime) -> io::Result<()> {
     let mut terms = [0u64; 48];
     let mut counts = [0u64; 85];
     for set in 0..65536 {
@@ -169,6 +170,7 @@ fn main() {
         tally(&terms[..end], set, &mut counts, 5 * size);
     }
     for size in 0..17 {
-        line(size, &counts);
+        line(&rt, size, &counts)?;
     }
+    Ok(())
 }

@@ -1,1 +1,2 @@
 pub mod Flowing
+pub mod Streams
