@@ -1,5 +1,6 @@
-/* Dilkovan: circuits shortened, proved to be the same operator. Link with target/staticlib/libdilkovan.a, which
- * `rt staticlib dilkovan` proves and builds for x86-64. examples/c and examples/rust call it.
+/* Dilkovan: circuits shortened, proved to be the same operator. Link with crates/dilkovan/out/libdilkovan.a, which
+ * `rt lib` in crates/dilkovan proves and builds for x86-64. examples/c and examples/rust call it.
+ * The stacks told below were measured with the older Rattle kit, and not again with today's.
  *
  * No function allocates, fails or keeps anything between calls; any numbers and any bytes may be given, and what can't be taken is
  * refused. What is said below of answers and rooms is proved for every input (docs/PROMISES.md). The caller sees to what no
