@@ -1,4 +1,4 @@
--- `parity::Parity::and` meets its contract.
+-- `parity::Parity::bitand` meets its contract.
 use mathlib.Core.Path.{sym, ap, ◌∙◌}
 use Prim.Native.Nat.{ℕ}
 use borrow.Author.Rules.{rules}
@@ -6,7 +6,7 @@ use lib.Bits.{and_block}
 use Rattle.rules.specs.Bit.{bit}
 use Rattle.parity.specs.View.{val}
 use Rattle.parity.proofs.Laws.{bit-and}
-use Rattle.parity.proofs.Parity.and.Goals as goal
+use Rattle.parity.proofs.ParityBitAnd.bitand.Goals as goal
 
 pub returns : goal.returns
 returns c = λ i.

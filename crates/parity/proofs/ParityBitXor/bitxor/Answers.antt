@@ -1,9 +1,9 @@
--- `parity::Parity::xor` meets its contract.
+-- `parity::Parity::bitxor` meets its contract.
 use mathlib.Core.Path.{sym}
 use borrow.Author.Rules.{rules}
 use lib.Bits.{xor_block}
 use Rattle.rules.specs.Bit.{xor}
-use Rattle.parity.proofs.Parity.xor.Goals as goal
+use Rattle.parity.proofs.ParityBitXor.bitxor.Goals as goal
 
 pub returns : goal.returns
 unfolding xor

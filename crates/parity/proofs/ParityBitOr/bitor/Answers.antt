@@ -1,4 +1,4 @@
--- `parity::Parity::or` meets its contract.
+-- `parity::Parity::bitor` meets its contract.
 use mathlib.Core.Path.{sym, ap, ◌∙◌}
 use Prim.Native.Nat.{ℕ}
 use borrow.Author.Rules.{rules}
@@ -6,7 +6,7 @@ use lib.Bits.{or_block}
 use Rattle.rules.specs.Bit.{bit}
 use Rattle.parity.specs.View.{val}
 use Rattle.parity.proofs.Laws.{bit-or}
-use Rattle.parity.proofs.Parity.or.Goals as goal
+use Rattle.parity.proofs.ParityBitOr.bitor.Goals as goal
 
 pub returns : goal.returns
 returns c = λ i.
