@@ -1,14 +1,16 @@
 // A parity: a set of columns 0 to 127, in two words. Methods and operators take it by value and hand a new one back.
 #![tactic(auto)]
 
-ghost use Rattle.std.specs.Prelude.{◌≡◌, ◌&&◌, ◌||◌, cond, map, [], ◌∷◌, ℕ, ◌-◌, ◌≤◌, ◌<◌, ◌^◌, eqb};
+ghost use Rattle.std.specs.Prelude.{◌≡◌, ◌&&◌, ◌||◌, cond, map, [], ◌∷◌, ℕ, ◌-◌, ◌≤◌, ◌<◌, ◌^◌, eqb, ◌==◌};
+ghost use Rattle.std.proofs.Common.{rules};
+ghost use Rattle.std.specs.Cmp.Rules.{comparing};
 ghost use Rattle.rules.specs.Bit.{bit, xor};
 ghost use Rattle.parity.specs.Columns.{clear_lowest, LowestIs, HighestIs};
 ghost use Rattle.parity.specs.View.{val, picked};
 
 use std::ops::{BitAnd, BitOr, BitXor};
 
-#[derive(Clone, Copy, PartialEq, Eq)]
+#[derive(Clone, Copy)]
 pub struct Parity {
     pub lo: u64,
     pub hi: u64,
@@ -161,6 +163,21 @@ impl Parity {
             self
         }
     }
+}
+
+// Stays: by hand, since a derived `==` speaks of the words, and every caller of their number.
+impl PartialEq for Parity {
+    ghost eq = { λ a b. val a == val b };
+
+    ghost laws = { Prim.search (comparing, rules) };
+
+    fn eq(&self, other: &Parity) -> bool {
+        (self.lo == other.lo) & (self.hi == other.hi)
+    }
+}
+
+impl Eq for Parity {
+    ghost laws = { Prim.search (comparing, rules) };
 }
 
 // The columns that are in one of the two and not in both.
