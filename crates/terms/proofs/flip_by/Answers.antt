@@ -19,7 +19,7 @@ loop-k-init c = (omega arith, refl, λ m _. cross-none m _ _)
 
 pub get-e-requires : goal.get-e-requires
 get-e-requires c =
-    let mask_is : Table (val c.args.mask) c.table-picks.result = table-made c.args.mask refl c.table-picks.ensures in
+    let mask_is : Table (val c.args.mask) c.table-picks.result = table-made c.table-picks.result c.table-picks.ensures in
     let held : length (terms_of c.loop-k.room) ≡ length (terms_of c.args.room.now) = ap length (c.loop-k.invariant.2 _ (mask_is)) ∙ cross-length _ _ _ _ in
     omega (arith, held)
 
@@ -29,12 +29,12 @@ digit-digit-requires c = omega arith
 pub pick-requires : goal.pick-requires
 pick-requires c = c.digit-digit.ensures.1
 
-pub xor-parity-requires : goal.xor-parity-requires
-xor-parity-requires c = tt
+pub bitxor-parity-requires : goal.bitxor-parity-requires
+bitxor-parity-requires c = tt
 
 pub put-requires : goal.put-requires
 put-requires c =
-    let mask_is : Table (val c.args.mask) c.table-picks.result = table-made c.args.mask refl c.table-picks.ensures in
+    let mask_is : Table (val c.args.mask) c.table-picks.result = table-made c.table-picks.result c.table-picks.ensures in
     let held : length (terms_of c.loop-k.room) ≡ length (terms_of c.args.room.now) = ap length (c.loop-k.invariant.2 _ (mask_is)) ∙ cross-length _ _ _ _ in
     omega (arith, held)
 
@@ -46,7 +46,7 @@ loop-k-smaller c = omega arith
 
 pub loop-k-preserved : goal.loop-k-preserved
 loop-k-preserved c =
-    let crosses : (m : ℕ) → Table m c.table-picks.result → val c.xor-parity.result ≡ flipped m c.args.t (val c.get-e.result.parity) = λ m made. c.xor-parity.ensures
+    let crosses : (m : ℕ) → Table m c.table-picks.result → val c.bitxor-parity.result ≡ flipped m c.args.t (val c.get-e.result.parity) = λ m made. c.bitxor-parity.ensures
     ∙ ap (xor (val c.get-e.result.parity)) (c.pick.ensures ∙ table-picks (bit (val c.get-e.result.parity) c.args.t) c.digit-digit.result c.digit-digit.ensures.0 made)
     ∙ cross-mask _ _ _ in
     let l = c.loop-k in (
@@ -60,6 +60,6 @@ shape_of-room c = c.loop-k.invariant.1
 
 pub returns : goal.returns
 returns c =
-    let mask_is : Table (val c.args.mask) c.table-picks.result = table-made c.args.mask refl c.table-picks.ensures in
+    let mask_is : Table (val c.args.mask) c.table-picks.result = table-made c.table-picks.result c.table-picks.ensures in
     let e : c.loop-k.k ≡ c.args.count = omega arith in
     rw e at (cross-front _ _ _ _ _ (c.loop-k.invariant.2 _ (mask_is)) (omega arith))
