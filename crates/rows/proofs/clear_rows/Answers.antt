@@ -4,20 +4,11 @@ use Prim.Native.Nat.{ℕ}
 use native.Mathlib.Omega.{arith}
 use lib.ListN.{get_or}
 use Rattle.rules.specs.Bit.{bit}
-use Rattle.parity.proofs.Tables.{table-made, table-picks}
+use Rattle.parity.proofs.Tables.{table-picks}
 use Rattle.rows.specs.Rows.{rows_of, other_has}
 use Rattle.rows.proofs.Room.{row_get}
 use Rattle.rows.proofs.Rounds.{pivot-stays, clear_next, clear-end, another}
 use Rattle.rows.proofs.clear_rows.Goals as goal
-
-pub loop-r-init : goal.loop-r-init
-loop-r-init c =
-    let s = c.args in
-    record {
-      pivot = rw (row_get s.a.now s.column) (table-made c.table-pivot.result c.table-pivot.ensures);
-      follow = rw (row_get s.inv.now s.column) (table-made c.table-follow.result c.table-follow.ensures);
-      rest = refl;
-    }
 
 pub loop-r-preserved : goal.loop-r-preserved
 loop-r-preserved c =

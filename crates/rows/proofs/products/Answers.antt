@@ -6,7 +6,7 @@ use Rattle.rules.specs.Close.{times}
 use Rattle.rows.specs.Rows.{rows_of}
 use Rattle.rows.proofs.Room.{row_count, row_get, row_put}
 use Rattle.rows.proofs.Sums.{product_at}
-use Rattle.rows.proofs.Rounds.{fill-next, fill_end}
+use Rattle.rows.proofs.Rounds.{fill-next}
 use Rattle.rows.proofs.products.Goals as goal
 
 pub row_times_matrix-requires : goal.row_times_matrix-requires
@@ -25,11 +25,3 @@ loop-r-preserved c =
     rw (row_put l.m l.r c.row_times_matrix.result)
     (fill-next (map (λ v. times v 0 inv) wanted) (rows_of l.m) l.r l.invariant _ (omega arith) (simp length-map (omega arith))
     (c.row_times_matrix.ensures ∙ rw (← row_get s.wanted.now l.r) (sym (product_at inv wanted l.r))))
-
-pub returns : goal.returns
-returns c =
-    let l = c.loop-r in
-    let s = c.args in
-    let e = row_count s.wanted.now in
-    let f = row_count l.m in
-    fill_end (map (λ v. times v 0 (rows_of s.inv.now)) (rows_of s.wanted.now)) (rows_of l.m) l.r l.invariant (omega arith) (simp length-map (omega arith))

@@ -27,9 +27,6 @@ low c h = c.lowest-at.ensures.low h
 pub loop-left-init : goal.loop-left-init
 loop-left-init c = (le_refl _, rw c.zero-sum.ensures (xor_zero_l _))
 
-pub overflow_cast-at : goal.overflow_cast-at
-overflow_cast-at c = omega (arith, c.lowest-at.ensures.small (some (goal.at.overflow_cast-at c).In-loop-left))
-
 pub bounds-m-at : goal.bounds-m-at
 bounds-m-at c = omega (arith, row_count c.args.m.now, lowest-lt _ _ (low (goal.at.bounds-m-at c).After-lowest-at (some (goal.at.bounds-m-at c).In-loop-left)) _ (lt_of_le_of_lt c.loop-left.invariant.0 c.requires))
 
