@@ -8,22 +8,22 @@
 use mathlib.Core.Path.{◌≡◌, refl, sym, ap, ◌∙◌}
 use mathlib.Core.Bool.{Bool, true, false, not, cond}
 use mathlib.Core.List.{List, [], ◌∷◌, ◌++◌, append_assoc, append-nil}
-use Prim.Native.Nat.{ℕ, zero, suc, ◌+◌, ◌-◌, ◌%◌, ◌≤◌, ◌<◌}
+use Prim.Native.Nat.{ℕ, zero, suc, ◌+◌, ◌%◌, ◌≤◌, ◌<◌}
 use native.Mathlib.Nat.{add-zero}
 use native.Mathlib.Numerals.{add-one}
 use native.Mathlib.Omega.{arith}
 use lib.ListN.{length, get_or, set, take, drop, length-append, length-drop}
-use lib.Seq.{take-suc, drop-cons, take-length, take_at, drop_at, get_or_at, set_at}
+use lib.Seq.{drop-cons, take-length, take_at, drop_at, get_or_at, set_at}
 use lib.Dec.{eqb}
 use borrow.Author.Tests.{ne_eqb}
 use Rattle.std.proofs.lemmas.List.Elements.{filter_more}
 use Rattle.std.specs.List.{filter}
-use Rattle.rules.specs.Bit.{◌⊕◌, bit}
+use Rattle.rules.specs.Bit.{bit}
 use Rattle.rules.specs.Fold.{Term}
 use Rattle.rules.specs.Walk.{side, nonzero, is_none}
 use Rattle.rules.specs.Order.{Shuffled, same, keep, swap, next}
 use Rattle.rules.proofs.Bits.{split}
-use Rattle.terms.specs.Terms.{no_term, exchanged, Begins, Gathers, Sides}
+use Rattle.terms.specs.Terms.{no_term, exchanged, Gathers, Sides}
 
 -- ---- the same terms in another order
 

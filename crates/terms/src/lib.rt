@@ -19,6 +19,7 @@ pub struct Entry {
     pub turn: u64,
 }
 
+#[tactic(auto, using(crate::proofs::Room::room_size))]
 pub fn get(room: &[u64], i: usize) -> Entry
     requires { i < length (terms_of room.now) }
     ensures { term_of result ≡ get_or (terms_of room.now) i no_term }
@@ -33,6 +34,7 @@ pub fn get(room: &[u64], i: usize) -> Entry
     }
 }
 
+#[tactic(auto, using(crate::proofs::Room::room_size))]
 pub fn put(room: &mut [u64], i: usize, e: Entry)
     requires { i < length (terms_of room.old) }
     ensures { Stores i (term_of e) e.turn room.old room.new }
@@ -43,6 +45,7 @@ pub fn put(room: &mut [u64], i: usize, e: Entry)
     room[at + 2] = e.turn;
 }
 
+#[tactic(auto, using(crate::proofs::Room::room_size))]
 pub fn exchange(room: &mut [u64], i: usize, j: usize)
     requires { (i < length (terms_of room.old)) × (j < length (terms_of room.old)) }
     ensures { terms_of room.new ≡ exchanged (terms_of room.old) i j }
@@ -54,6 +57,7 @@ pub fn exchange(room: &mut [u64], i: usize, j: usize)
 }
 
 // A term's third word.
+#[tactic(auto, using(crate::proofs::Room::room_size))]
 fn word(room: &[u64], i: usize) -> u64
     requires { i < length (terms_of room.now) }
     ensures { result ≡ get_or (words_of room.now) i 0 }
@@ -169,6 +173,7 @@ pub fn add_term(
 
 // Of the first `count` terms, those that `keep` takes come first, in order; how many they are. What it says is counted as a number, so that the loop
 // has no branch on data.
+#[tactic(auto, using(crate::proofs::Room::room_size))]
 fn gather<F: Fn(Entry) -> bool>(room: &mut [u64], count: usize, keep: F) -> usize
     requires inside { count ≤ length (terms_of room.old) }
     requires callable { F.IsAlwaysCallable keep }
@@ -192,6 +197,7 @@ pub fn compact(room: &mut [u64], count: usize) -> usize
 }
 
 // Splits the terms by a column: those with it first, in order, then those without. How many have it.
+#[tactic(auto, using(crate::proofs::Room::room_size))]
 pub fn split(room: &mut [u64], column: u32) -> usize
     requires { column < 128 }
     ensures { Sides column (terms_of room.old) (terms_of room.new) result }
@@ -202,6 +208,7 @@ pub fn split(room: &mut [u64], column: u32) -> usize
 
 // The same of the terms from `from` up to `to`, with the rest of the room as it was.
 // Stays: beside `split`, since how many numbers make a term is known in this crate alone.
+#[tactic(auto, using(crate::proofs::Room::room_size))]
 pub fn split_at(room: &mut [u64], from: usize, to: usize, column: u32) -> usize
     requires { (column < 128) × ((from ≤ to) × (to ≤ length (terms_of room.old))) }
     ensures { SplitAt column from to (terms_of room.old) (terms_of room.new) result }
@@ -210,6 +217,7 @@ pub fn split_at(room: &mut [u64], from: usize, to: usize, column: u32) -> usize
 }
 
 // CNOTs from the columns of a mask to t pass the first `count` terms, all at once: a parity with bit t has the mask's columns flipped.
+#[tactic(auto, using(crate::proofs::Room::room_size))]
 pub fn flip_by(room: &mut [u64], count: usize, mask: Parity, t: u32)
     requires { (t < 128) × (count ≤ length (terms_of room.old)) }
     ensures { Begins (flip_terms (val mask) t (take count (terms_of room.old))) count count (terms_of room.old) (terms_of room.new) }
@@ -219,13 +227,6 @@ pub fn flip_by(room: &mut [u64], count: usize, mask: Parity, t: u32)
         let e = get(&*room, k);
         let digit = e.parity.digit(t);
         let parity = e.parity ^ Parity::pick(&picks, digit);
-        put(
-            &mut *room,
-            k,
-            Entry {
-                parity,
-                turn: e.turn,
-            },
-        );
+        put(&mut *room, k, Entry { parity, ..e });
     }
 }

@@ -1,5 +1,5 @@
 -- `terms::add_term` meets its contract: by where the search ended, a term's turn is stored anew, or a term more; the index follows.
-use Rattle.std.proofs.Common.{◌≡◌, ◌∙◌, ◌+◌, ◌≤◌, ◌<◌, ℕ, suc, sym, refl, ap, length, take, arith}
+use Rattle.std.proofs.Common.{◌∙◌, ◌+◌, ◌≤◌, ◌<◌, ℕ, sym, refl, ap, length, take, arith}
 use Rattle.parity.specs.View.{val}
 use Rattle.terms.specs.Terms.{terms_of, slot_of, last_of, link_of, place, parity_at}
 use Rattle.terms.proofs.Places.{not-lt, fold-met, fold-new}

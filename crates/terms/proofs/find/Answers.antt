@@ -1,10 +1,8 @@
 -- `terms::find` meets its contract.
-use Rattle.std.proofs.Common.{◌≡◌, ◌≤◌, ◌<◌, suc, ◌∙◌, sym, ap, arith, length, get_or, eqb, ltb}
-use borrow.Author.Tests.{eqb-true, eqb-false, ltb-true}
-use Rattle.rules.specs.Fold.{Term}
-use Rattle.rules.proofs.Bits.{and_left, and_right}
+use Rattle.std.proofs.Common.{◌<◌, suc, ◌∙◌, sym, arith, length, get_or}
+use borrow.Author.Tests.{eqb-true, eqb-false}
 use Rattle.parity.specs.View.{val}
-use Rattle.terms.specs.Terms.{terms_of, slot_of, link_of, parity_at}
+use Rattle.terms.specs.Terms.{terms_of, slot_of, parity_at}
 use Rattle.terms.proofs.Chains.{Down, chain_first, chain-less, chain_next, chain-met}
 use Rattle.terms.proofs.Indexing.{slot_lt, found-met, found-end}
 use Rattle.terms.proofs.find.Goals as goal

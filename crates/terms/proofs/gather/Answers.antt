@@ -1,7 +1,5 @@
 -- `terms::gather` meets its contract, by a round of the sieve.
-use Rattle.std.proofs.Common.{◌≡◌, ◌≤◌, ◌∙◌, length, Bool, true, false, cond, refl, arith}
-use Rattle.terms.specs.Terms.{terms_of}
-use Rattle.terms.proofs.Room.{room-same}
+use Rattle.std.proofs.Common.{◌≡◌, ◌≤◌, ◌∙◌, Bool, true, false, cond, refl, arith}
 use Rattle.terms.proofs.Sieve.{sieve-none, sieve-round, sieve-all}
 use Rattle.terms.proofs.gather.Goals as goal
 
@@ -12,15 +10,6 @@ digit false = (refl, omega arith)
 
 pub loop-k-init : goal.loop-k-init
 loop-k-init g c = record { behind = omega arith; size = refl; sieved = λ keeps tells. sieve-none keeps _ }
-
-pub get-e-requires : goal.get-e-requires
-get-e-requires g c = omega (arith, room-same c.loop-k.room c.args.room.now c.loop-k.invariant.size)
-
-pub exchange-requires : goal.exchange-requires
-exchange-requires g c =
-    let held = room-same c.loop-k.room c.args.room.now c.loop-k.invariant.size in
-    let behind = c.loop-k.invariant.behind in
-    (omega arith, omega arith)
 
 pub loop-k-preserved : goal.loop-k-preserved
 loop-k-preserved g c =

@@ -1,8 +1,8 @@
 -- `terms::last` meets its contract: a head that is past the count, one of another hash, one that is trusted.
-use Rattle.std.proofs.Common.{◌≡◌, ◌∙◌, ℕ, length, get_or, ap, arith}
+use Rattle.std.proofs.Common.{◌≡◌, ◌∙◌, length, get_or, ap, arith}
 use Rattle.rules.specs.Fold.{Term}
 use Rattle.terms.specs.Terms.{slot_of, parity_at}
-use Rattle.terms.proofs.Chains.{head-met, head-past, head-other}
+use Rattle.terms.proofs.Chains.{head-past, head-other}
 use Rattle.terms.proofs.last.Goals as goal
 
 pub returns-then-count-at : goal.returns-then-count-at

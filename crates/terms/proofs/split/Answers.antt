@@ -1,12 +1,9 @@
 -- `terms::split` meets its contract.
-use Rattle.std.proofs.Common.{◌≡◌, sym, rules, arith, length, ◌/◌}
+use Rattle.std.proofs.Common.{◌≡◌, rules, arith, length, ◌/◌}
 use Rattle.terms.specs.Terms.{terms_of}
 use Rattle.terms.proofs.Room.{room-length, room-same}
 use Rattle.terms.proofs.Sieve.{owns, sides_filter}
 use Rattle.terms.proofs.split.Goals as goal
-
-pub gather-requires-clause-inside : goal.gather-requires-clause-inside
-gather-requires-clause-inside c = omega (arith, room-length c.args.room.now)
 
 pub returns : goal.returns
 returns c =
