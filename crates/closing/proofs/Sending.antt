@@ -21,12 +21,11 @@ use Rattle.rules.proofs.Counting.{reduce-size}
 use Rattle.rules.proofs.Passing.{twos-append}
 use Rattle.rules.proofs.Steps.{emit-append, emit-one, pure-count, within-back, Ends, within-at, closing_same, closing-stuck, closing-by, closing-steps}
 use Rattle.emit.specs.Emitted.{Holds, Ready, Passes, dear, long, Emits}
-use Rattle.emit.proofs.Appending.{emits_none}
+use Rattle.emit.proofs.Appending.{emits_none, emits_then, emits-stop}
 use Rattle.rows.specs.Rows.{given}
-use Rattle.rows.proofs.Room.{two-get}
 use Rattle.closing.specs.Additions.{steps_of, wanted, Over, Made}
 use Rattle.closing.specs.Emission.{left_of, Wired, Sent, backwards, reversed, needed_rows, Sends, Closes}
-use Rattle.closing.proofs.Entries.{step_count}
+use Rattle.closing.proofs.Entries.{step_count, step_get}
 
 -- more CNOTs than the budget has left
 pub emits-lost : (ws : List ℕ) (c : List Step) (out : List ℤ) (b : Budget) → Pure c → left_of b < length c → Emits (emit ws c) out b out b false
@@ -65,8 +64,7 @@ module _ (ws steps : List ℕ) (k : ℕ) (fits : 2 * k ≤ length steps) where
   sent-none = ap (λ (l : List Step). emit ws (reverse l)) (ap (λ (j : ℕ). drop j (take k (steps_of steps))) (sym few) ∙ drop-length (take k (steps_of steps)))
 
   entry : (i : ℕ) → i < k → get_or (take k (steps_of steps)) i (cn 0 0) ≡ cn (get_or steps (2 * i) 0) (get_or steps (2 * i + 1) 0)
-  unfolding steps_of
-  entry i l = get_or-take k (steps_of steps) i (cn 0 0) l ∙ two-get cn steps i (cn 0 0) (omega (arith, step_count steps))
+  entry i l = get_or-take k (steps_of steps) i (cn 0 0) l ∙ step_get steps i (cn 0 0) (omega (arith, step_count steps))
 
   pub sent-next : (i : ℕ) → 0 < i → i ≤ k → sent ws steps k (i - 1) ≡ sent ws steps k i ++ (gate_at ws steps (i - 1) ∷ [])
   sent-next i p l =
@@ -85,6 +83,16 @@ module _ (ws steps : List ℕ) (k : ℕ) (fits : 2 * k ≤ length steps) where
       ap (λ (l : List Step). emit ws (reverse l)) (sym (take-append-drop i all))
       ∙ ap (emit ws) (reverse-append (take i all) (drop i all))
       ∙ emit-append ws (reverse (drop i all)) (reverse (take i all))
+
+  module _ {o o₁ o₂ : List ℤ} {b b₁ b₂ : Budget} {w : Bool} (i : ℕ) (p : 0 < i) (l : i ≤ k) (before : Emits (sent ws steps k i) o b o₁ b₁ true)
+      (one : Emits (gate_at ws steps (i - 1) ∷ []) o₁ b₁ o₂ b₂ w) where
+    -- one entry more is emitted
+    pub sent-more : Emits (sent ws steps k (i - 1)) o b o₂ b₂ w
+    sent-more = rw (sent-next i p l) (emits_then before one)
+
+    -- or the budget was spent by it
+    pub sent-stop : w ≡ false → Emits (emit ws (backwards steps k)) o b o₂ b₂ false
+    sent-stop e = rw (sent-rest (i - 1)) (emits-stop (sent ws steps k (i - 1)) _ _ _ _ _ (subst (Emits (sent ws steps k (i - 1)) o b o₂ b₂) e sent-more))
 
 -- ---- the reduction's answer, as the closing map
 
