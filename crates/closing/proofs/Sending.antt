@@ -22,9 +22,11 @@ use Rattle.rules.proofs.Passing.{twos-append}
 use Rattle.rules.proofs.Steps.{emit-append, emit-one, pure-count, within-back, Ends, within-at, closing_same, closing-stuck, closing-by, closing-steps}
 use Rattle.emit.specs.Emitted.{Holds, Ready, Passes, dear, long, Emits}
 use Rattle.emit.proofs.Appending.{emits_none, emits_then, emits-stop}
-use Rattle.rows.specs.Rows.{given}
+use Rattle.parity.specs.declared.Parity.{Parity}
+use Rattle.rows.specs.Rows.{rows_of, given}
+use Rattle.rows.proofs.Room.{row_count}
 use Rattle.closing.specs.Additions.{steps_of, wanted, Over, Made}
-use Rattle.closing.specs.Emission.{left_of, Wired, Sent, backwards, reversed, needed_rows, Sends, Closes}
+use Rattle.closing.specs.Emission.{left_of, Wired, Sent, backwards, reversed, needed_rows, Sendable, Sends, Rooms, Closes}
 use Rattle.closing.proofs.Entries.{step_count, step_get}
 
 -- more CNOTs than the budget has left
@@ -172,6 +174,23 @@ closes-needed from to rows e f = go (inverse from) refl f
               ∙ ap reversed (sym g),
           ap length g ∙ length-map to (λ v. times v 0 inv),
         )
+
+-- and what it takes to send it is there
+pub needed-sendable : (from to spare m : List Parity) (names room : List ℕ) (most : ℕ) → Rooms from to spare names room most → eq_rows (rows_of from) (rows_of to) ≡ false
+    → given true (rows_of m) ≡ needed_rows (inverse (rows_of from)) (rows_of to) → Sendable m names room most
+needed-sendable from to spare m names room most p e f =
+    let n = closes-needed (rows_of from) (rows_of to) (rows_of m) e f in
+    record {
+      few = rw n.1 p.matrices.few;
+      named = p.named ∙ sym n.1;
+      wired = p.wired;
+      steps = rw n.1 p.steps;
+      from = rows_of from;
+      to = rows_of to;
+      square = omega (arith, p.matrices.held, row_count from, row_count to);
+      sized = sym n.1;
+      closes = n.0;
+    }
 
 -- no map is needed that could be had
 pub stuck-none : (from to rows : List ℕ) → eq_rows from to ≡ false → given false rows ≡ needed_rows (inverse from) to → closing from to ≡ none

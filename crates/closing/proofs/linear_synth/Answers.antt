@@ -1,10 +1,9 @@
 -- `closing::linear_synth` meets its contract: nothing is needed, no map can be had, or the map that is needed is reduced.
-use Rattle.std.proofs.Common.{◌≡◌, false, length, sym, ◌∙◌, arith}
+use Rattle.std.proofs.Common.{◌≡◌, false, length, sym, ◌∙◌}
 use Rattle.rules.specs.Close.{eq_rows, closing}
 use Rattle.rows.specs.Rows.{rows_of}
-use Rattle.rows.proofs.Room.{row_count}
 use Rattle.closing.specs.Emission.{reversed}
-use Rattle.closing.proofs.Sending.{given-as, closes-same, closes-stuck, closes-needed}
+use Rattle.closing.proofs.Sending.{given-as, closes-same, closes-stuck, closes-needed, needed-sendable}
 use Rattle.closing.proofs.linear_synth.Goals as goal
 use Rattle.closing.proofs.linear_synth.Goals.{Else-equal, Else-not-needed}
 
@@ -25,22 +24,9 @@ returns-then-not-needed c = closes-stuck _ _ _ _ _ _ (differ (goal.at.returns-th
 
 pub send-requires : goal.send-requires
 send-requires c =
-    let s = c.args in
-    let p = c.requires.rooms in
-    let n = reduced (goal.at.send-requires c).Else-not-needed (differ (goal.at.send-requires c).Else-equal) in
     record {
       ready = c.requires.ready;
-      sendable = record {
-        few = rw n.1 p.matrices.few;
-        named = p.named ∙ sym n.1;
-        wired = p.wired;
-        steps = rw n.1 p.steps;
-        from = _;
-        to = _;
-        square = omega (arith, p.matrices.held, row_count s.held.now, row_count s.wanted.now);
-        sized = sym n.1;
-        closes = n.0;
-      };
+      sendable = needed-sendable _ _ _ _ _ _ _ c.requires.rooms (differ (goal.at.send-requires c).Else-equal) (given-as _ _ _ _ c.needed.ensures (c.if-not-needed.false));
     }
 
 pub returns : goal.returns
