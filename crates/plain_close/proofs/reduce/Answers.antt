@@ -22,23 +22,12 @@ more c =
 pub loop-column-init : goal.loop-column-init
 loop-column-init c = record { few = omega arith; left = start c.args.m.now c.args.steps.now }
 
-pub diagonal-requires : goal.diagonal-requires
-diagonal-requires c = let h = more (goal.at.diagonal-requires c).In-loop-column in record { few = omega (arith, c.requires.0, h.1); inside = omega (arith, h.0, h.1); long = omega (arith, h.2) }
-
 pub returns-in_err-filled : goal.returns-in_err-filled
 returns-in_err-filled c =
     let l = c.loop-column in
     let h = more (goal.at.returns-in_err-filled c).In-loop-column in
     let t : diagonal (length (rows_of c.args.m.now)) l.column (held l.m l.steps l.k) ≡ none = rw h.1 at c.in_err-filled.ensures in
     rw c.from_residual.ensures (l.invariant.left ∙ reduce-stuck _ l.column _ h.0 t)
-
-pub clear_column-k-requires : goal.clear_column-k-requires
-clear_column-k-requires c =
-    let h = more (goal.at.clear_column-k-requires c).In-loop-column in
-    let d = c.diagonal in
-    let e = row_count d.new.m in
-    let f = row_count c.args.m.now in
-    record { few = omega (arith, c.requires.0, e, f); inside = omega (arith, h.0, e, f); long = omega (arith, h.2, c.in_ok-filled.ensures.1, e, f) }
 
 pub loop-column-preserved : goal.loop-column-preserved
 loop-column-preserved c =
