@@ -54,14 +54,14 @@ pub returns-then-not-fits : goal.returns-then-not-fits
 returns-then-not-fits c =
     let told : c.fits.result ≡ leb (c.args.b.wires + new (get_or c.args.table.now c.args.g.first 0) + cond (leb 8 c.args.g.code) (new (get_or c.args.table.now (last_wire c.args.g) 0)) 0) c.args.plan.qubits = rw (← c.last_wire.ensures) c.fits.ensures in
     let k = op-some c.args.g.code c.if-code.false in
-    let w = sym told ∙ not-true _ c.if-not-fits.true-raw in
+    let w = sym told ∙ c.if-not-fits.true in
     λ names h. sym (takes-is h _ (view c.args.plan) c.args.g k.0 k.1 c.requires.wired.apart (record { few = c.requires.terms; same = refl }) ∙ rw w)
 
 pub returns-then-two-code : goal.returns-then-two-code
 returns-then-two-code c =
     let told : c.fits.result ≡ leb (c.args.b.wires + new (get_or c.args.table.now c.args.g.first 0) + cond (leb 8 c.args.g.code) (new (get_or c.args.table.now (last_wire c.args.g) 0)) 0) c.args.plan.qubits = rw (← c.last_wire.ensures) c.fits.ensures in
     let k = op-some c.args.g.code c.if-code.false in
-    let w = sym told ∙ not-false _ c.if-not-fits.false-raw in
+    let w = sym told ∙ c.if-not-fits.false in
     λ names h. sym (takes-is h _ (view c.args.plan) c.args.g k.0 k.1 c.requires.wired.apart (record { few = c.requires.terms; same = refl })
     ∙ rw w (spare (leb 8 c.args.g.code) (eqb c.args.g.code 1) (has_term (parity_at c.args.b.wires (rows_of c.args.rows.now) (get_or c.args.table.now c.args.g.first 0)) (terms_at c.args.b c.args.room.now)) (ltb c.args.b.terms c.args.plan.terms) c.if-two-code.true))
 
@@ -71,7 +71,7 @@ parity_of-p-requires c =
     record {
       inside = c.requires.wired.first-in;
       old = c.requires.held _;
-      fresh = λ e. lt_of_lt_of_le (fits_fresh _ _ _ _ (sym told ∙ not-false _ c.if-not-fits.false-raw) e) c.requires.low;
+      fresh = λ e. lt_of_lt_of_le (fits_fresh _ _ _ _ (sym told ∙ c.if-not-fits.false) e) c.requires.low;
     }
 
 pub find-requires : goal.find-requires
@@ -83,8 +83,8 @@ returns c =
     let told : c.fits.result ≡ leb (c.args.b.wires + new (get_or c.args.table.now c.args.g.first 0) + cond (leb 8 c.args.g.code) (new (get_or c.args.table.now (last_wire c.args.g) 0)) 0) c.args.plan.qubits = rw (← c.last_wire.ensures) c.fits.ensures in
     let full : (leb 8 c.args.g.code ≡ false) × ((eqb c.args.g.code 1 ≡ false) × (ltb c.args.b.terms c.args.plan.terms ≡ false)) = none (leb 8 c.args.g.code) (eqb c.args.g.code 1) (ltb c.args.b.terms c.args.plan.terms) c.if-two-code.false in
     let k = op-some c.args.g.code c.if-code.false in
-    let w = sym told ∙ not-false _ c.if-not-fits.false-raw in
+    let w = sym told ∙ c.if-not-fits.false in
     let f = full in
-    let m : ltb c.find.result c.args.b.terms ≡ has_term (parity_at c.args.b.wires (rows_of c.args.rows.now) (get_or c.args.table.now c.args.g.first 0)) (terms_at c.args.b c.args.room.now) =
-    searched c.args.b.terms _ _ _ _ c.requires.terms c.find.ensures c.parity_of-p.ensures in
+    let m : c.is_some.result ≡ has_term (parity_at c.args.b.wires (rows_of c.args.rows.now) (get_or c.args.table.now c.args.g.first 0)) (terms_at c.args.b c.args.room.now) =
+    c.is_some.ensures ∙ searched c.args.b.terms _ _ _ _ c.requires.terms c.find.ensures c.parity_of-p.ensures in
     λ names h. m ∙ sym (takes-is h _ (view c.args.plan) c.args.g k.0 k.1 c.requires.wired.apart (record { few = c.requires.terms; same = refl }) ∙ rw (w, f.0, f.1.0, f.1.1) (or-false _))
