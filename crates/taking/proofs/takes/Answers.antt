@@ -4,8 +4,7 @@ use mathlib.Core.Bool.{Bool, true, false, ◌||◌, cond, or-true, or-false, tru
 use mathlib.Core.List.{List}
 use Prim.Native.Nat.{ℕ, ◌+◌, ◌≤◌, ◌<◌}
 use native.Mathlib.Nat.{lt_of_lt_of_le}
-use borrow.Author.Rules.{rules}
-use borrow.Author.Tests.{not-true, not-false, leb-true}
+use borrow.Author.Tests.{leb-true}
 use lib.ListN.{length, get_or}
 use lib.Dec.{eqb, leb, ltb}
 use Rattle.rules.specs.Scan.{has_term}
@@ -42,14 +41,6 @@ none false false t e = (refl, (refl, e))
 pub returns-then-code : goal.returns-then-code
 returns-then-code c = λ names h. rw (op-other c.args.g c.if-code.true) (takes-other h _ (view c.args.plan))
 
-pub last_wire-requires : goal.last_wire-requires
-last_wire-requires c = tt
-
-pub fits-requires : goal.fits-requires
-fits-requires c =
-    let k = op-some c.args.g.code c.if-code.false in
-    (c.requires.few, (c.requires.wired.first-in, rw c.last_wire.ensures (last-in c.args.g _ c.requires.wired k.1)))
-
 pub returns-then-not-fits : goal.returns-then-not-fits
 returns-then-not-fits c =
     let told : c.fits.result ≡ leb (c.args.b.wires + new (get_or c.args.table.now c.args.g.first 0) + cond (leb 8 c.args.g.code) (new (get_or c.args.table.now (last_wire c.args.g) 0)) 0) c.args.plan.qubits = rw (← c.last_wire.ensures) c.fits.ensures in
@@ -73,9 +64,6 @@ parity_of-p-requires c =
       old = c.requires.held _;
       fresh = λ e. lt_of_lt_of_le (fits_fresh _ _ _ _ (sym told ∙ c.if-not-fits.false) e) c.requires.low;
     }
-
-pub find-requires : goal.find-requires
-find-requires c = search rules
 
 pub returns : goal.returns
 unfolding terms_at
