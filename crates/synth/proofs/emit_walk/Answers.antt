@@ -1,10 +1,9 @@
 -- `synth::emit_walk` meets its contract: the terms other than 0 stand first, and the walk is over them alone.
-use Rattle.std.proofs.Common.{◌≡◌, ◌*◌, ◌≤◌, List, length, take, sym, ap, ap₂, ◌∙◌, arith}
+use Rattle.std.proofs.Common.{◌≡◌, ◌*◌, ◌≤◌, length, sym, ap, ap₂, ◌∙◌, arith}
 use lib.Seq.{length-take-le}
 use Prim.Native.Nat.{ℕ}
 use Rattle.rules.specs.Walk.{held}
 use Rattle.rules.specs.Close.{units}
-use Rattle.terms.specs.Terms.{terms_of}
 use Rattle.terms.proofs.Room.{room-length}
 use Rattle.rows.specs.Rows.{rows_of}
 use Rattle.rows.proofs.Room.{row_count}
