@@ -1,4 +1,3 @@
--- `plain_walk::better` meets its contract, by the test.
 use borrow.Author.Tests.{le-leb, lt-leb}
 use native.Mathlib.Omega.{arith}
 use Rattle.plain_walk.proofs.better.Goals as goal
