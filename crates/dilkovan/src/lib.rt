@@ -117,7 +117,7 @@ fn blamed(a: alike::Answer) -> u64
                 + r.number as u64 * 4294967296
                 + r.place as u64
         }
-        alike::Answer::Told(v) => acting::number(v),
+        alike::Answer::Told(v) => u64::from(v),
     }
 }
 
