@@ -6,7 +6,7 @@ use mathlib.Core.List.{List}
 use Prim.Native.Nat.{ℕ, zero, suc, ◌+◌, ◌-◌, ◌*◌, ◌%◌, ◌^◌, ◌≤◌, ◌<◌}
 use native.Mathlib.Nat.{le_refl, pow-suc, lt_of_not-le}
 use native.Mathlib.Omega.{arith}
-use lib.ListN.{length, get_or, set, replicate}
+use lib.ListN.{length, get_or, set}
 use lib.Seq.{get_or-set_same, get_or-set_other}
 use lib.Dec.{eqb, ltb}
 use lib.Pow.{pow_pos}
@@ -16,7 +16,6 @@ use Rattle.rules.proofs.Bits.{split, same, bit-zero, bit-ones, none-set}
 use Rattle.parity.specs.Columns.{clear_lowest, Lowest}
 use Rattle.parity.proofs.Laws.{bit_high, bit-clear, xor_zero_r}
 use Rattle.parity.proofs.Words.{low_bit, high_bit}
-use Rattle.rows.specs.Rows.{by_two, rows_of}
 use Rattle.acting.specs.Alike.{each}
 use Rattle.acting.proofs.Deciding.{each-true, true-each}
 use Rattle.lanes.specs.Lanes.{half, near, Inside, Beside, Adds}
@@ -131,12 +130,3 @@ module _ (chosen p : ℕ) (rows₀ : List ℕ) where
   left_end left rows e h = record {
     at = λ j l. sym (ap (λ (b : Bool). xor (get_or rows j zero) (cond b p zero)) (ap (λ (z : ℕ). bit z j) e ∙ bit-zero j) ∙ xor_zero_r (get_or rows j zero)) ∙ h.at j l;
   }
-
--- ---- a room of zeros
-
-pub zero-rows : (m j : ℕ) → get_or (rows_of (replicate m 0)) j 0 ≡ 0
-unfolding rows_of by_two
-zero-rows zero j = refl
-zero-rows (suc zero) j = refl
-zero-rows (suc (suc m)) zero = refl
-zero-rows (suc (suc m)) (suc j) = zero-rows m j
