@@ -2,7 +2,7 @@
 use mathlib.Core.Path.{◌≡◌, refl, ap, ◌∙◌, subst}
 use mathlib.Core.Logic.{◌≢◌}
 use mathlib.Core.List.{List, [], ◌∷◌}
-use Prim.Native.Nat.{ℕ, ◌+◌, ◌-◌, ◌≤◌, ◌<◌}
+use Prim.Native.Nat.{ℕ, ◌+◌, ◌≤◌, ◌<◌}
 use native.Mathlib.Omega.{arith}
 use lib.IntN.{ℤ}
 use lib.ListN.{length, get_or}
@@ -14,9 +14,7 @@ use Rattle.rules.specs.Walk as Walk
 use Rattle.rules.specs.Synth.{emit}
 use Rattle.rules.specs.Left.{left, Leads}
 use Rattle.rules.proofs.Steps.{emit-append, emit-one}
-use Rattle.parity.specs.declared.Parity.{Parity}
 use Rattle.parity.specs.View.{val}
-use Rattle.terms.specs.Terms.{terms_of}
 use Rattle.writing.specs.Written.{Wrote, Fits}
 use Rattle.writing.proofs.Following.{wrote_none, fits-first}
 use Rattle.walk.specs.declared.Slot.{Slot}
@@ -25,8 +23,7 @@ use Rattle.walk.specs.Stack.{no_slot, aim_to, target_of, stack_of, Aimed, Branch
 use Rattle.walk.proofs.Aims.{NoneOwed}
 use Rattle.walk.proofs.Chaining.{added}
 use Rattle.walk.proofs.Nodes as Nodes
-use Rattle.plain_walk.specs.declared.State.{State}
-use Rattle.plain_walk.specs.Place.{Place, stack, place_of, Roomy, Standing, Walks, Stepped, Paid}
+use Rattle.plain_walk.specs.Place.{Place, stack, Roomy, Standing, Walks, Stepped, Paid}
 
 -- a place, by its parts
 abbrev pub place : List Slot → List Term → List ℕ → List ℤ → ℕ → ℕ → ℕ → Place
@@ -141,31 +138,6 @@ module _ (names : List ℕ) (p : Place) (h : Standing names p) (at : ℕ) (k : p
             fits = omega (arith, h.fits);
           }
 
--- ---- a place in its rooms
-
--- the newest node
-abbrev pub newest : List Slot → State → Slot
-newest nodes s = get_or nodes (s.depth - 1) no_slot
-
--- where it and its set stand
-pub record Lies (names : List ℕ) (nodes : List Slot) (room : List ℕ) (s : State) : Type 0 where
-  pub under : s.depth ≡ (s.depth - 1) + 1
-  pub inside : s.depth - 1 < length nodes
-  pub few : s.depth ≤ length names + 1
-  pub starts : (newest nodes s).start ≤ s.end
-  pub ends : s.end ≤ length (terms_of room)
-  pub aimed : Aimed (length names) (newest nodes s)
-
-pub lies : (names : List ℕ) (nodes : List Slot) (room : List ℕ) (m : List Parity) (whole : List ℤ) (s : State) → Standing names (place_of nodes room m whole s) → 0 < s.depth → Lies names nodes room s
-lies names nodes room m whole s h w =
-    let p = place_of nodes room m whole s in
-    let under : s.depth ≡ (s.depth - 1) + 1 = omega arith in
-    let deep = top-deep names p h (s.depth - 1) under (newest nodes s) refl in
-    record {
-      under = under;
-      inside = omega (arith, deep, h.wide);
-      few = omega (arith, deep);
-      starts = top_start names p h (s.depth - 1) under (newest nodes s) refl;
-      ends = h.fits;
-      aimed = top-aimed names p h (s.depth - 1) under (newest nodes s) refl;
-    }
+-- where the newest node stands in the rooms
+pub lies : (names : List ℕ) (p : Place) → Standing names p → 0 < p.depth → Nodes.Lies (length names) p.slots (length p.terms) p.depth p.end
+lies names p h w = Nodes.lies (length names) p.slots p.terms p.depth p.end h.sound h.stairs h.fits h.wide w

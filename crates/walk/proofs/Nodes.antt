@@ -260,3 +260,31 @@ module _ (n : ℕ) (sl : List Slot) (ts : List Term) (depth end at : ℕ) (k : d
 
       pub branch-laid : Laid n ss (depth + 1) end
       branch-laid = halves-laid n sl ts depth end at k d top-aimed top_start rest-laid fits top-cands o z deep ss us br
+
+-- ---- the newest node in its rooms
+
+abbrev pub newest : List Slot → ℕ → Slot
+newest nodes depth = get_or nodes (depth - 1) no_slot
+
+-- where it and its set stand, over n columns and as many terms
+pub record Lies (n : ℕ) (nodes : List Slot) (many depth end : ℕ) : Type 0 where
+  pub under : depth ≡ (depth - 1) + 1
+  pub inside : depth - 1 < length nodes
+  pub few : depth ≤ n + 1
+  pub starts : (newest nodes depth).start ≤ end
+  pub ends : end ≤ many
+  pub aimed : Aimed n (newest nodes depth)
+
+pub lies : (n : ℕ) (nodes : List Slot) (ts : List Term) (depth end : ℕ) → Laid n nodes depth end → Stairs n (stack_of nodes depth ts end) → end ≤ length ts → n + 1 ≤ length nodes → 0 < depth
+    → Lies n nodes (length ts) depth end
+lies n nodes ts depth end laid stairs fits wide w =
+    let under : depth ≡ (depth - 1) + 1 = omega arith in
+    let deep = top-deep n nodes ts depth end (depth - 1) under (newest nodes depth) refl laid stairs in
+    record {
+      under = under;
+      inside = omega (arith, deep);
+      few = omega (arith, deep);
+      starts = top_start n nodes ts depth end (depth - 1) under (newest nodes depth) refl laid stairs;
+      ends = fits;
+      aimed = top-aimed n nodes ts depth end (depth - 1) under (newest nodes depth) refl laid stairs;
+    }

@@ -31,6 +31,7 @@ use Rattle.walk.specs.Stack.{no_slot, aim_to, aim_of, target_of, node_of, stack_
 use Rattle.terms.specs.Terms.{terms_of}
 use Rattle.walk.specs.declared.State.{State}
 use Rattle.walk.specs.Place.{Place, stack, place_of, Standing, Stepped, Paid, Descends}
+use Rattle.walk.specs.Later.{current}
 use Rattle.walk.proofs.Deferring.{now-length}
 use Rattle.walk.proofs.Stacks.{stack-cross}
 use Rattle.walk.proofs.Aims.{NoneOwed, aim-settled, settled-to, visit-leaf}
@@ -196,31 +197,8 @@ module _ (names : List ℕ) (p : Place) (h : Standing names p) (at : ℕ) (k : p
         fits = omega (arith, h.fits);
       }
 
--- ---- a place in its rooms
-
--- the newest node
-abbrev pub newest : List Slot → State → Slot
-newest nodes s = get_or nodes (s.depth - 1) no_slot
-
--- where it and its set stand
-pub record Lies (names : List ℕ) (nodes : List Slot) (room : List ℕ) (s : State) : Type 0 where
-  pub under : s.depth ≡ (s.depth - 1) + 1
-  pub inside : s.depth - 1 < length nodes
-  pub few : s.depth ≤ length names + 1
-  pub starts : (newest nodes s).start ≤ s.end
-  pub ends : s.end ≤ length (terms_of room)
-  pub aimed : Aimed (length names) (newest nodes s)
-
-pub lies : (names : List ℕ) (nodes : List Slot) (room : List ℕ) (m : List Parity) (out : List ℤ) (b : Budget) (s : State) → Standing names (place_of nodes room m out s b) → 0 < s.depth → Lies names nodes room s
+-- where the newest node stands in the rooms
+pub lies : (names : List ℕ) (nodes : List Slot) (room : List ℕ) (m : List Parity) (out : List ℤ) (b : Budget) (s : State) → Standing names (place_of nodes room m out s b) → 0 < s.depth
+    → Nodes.Lies (length names) nodes (length (terms_of room)) s.depth s.end
 lies names nodes room m out b s h w =
-    let p = place_of nodes room m out s b in
-    let under : s.depth ≡ (s.depth - 1) + 1 = omega arith in
-    let deep = top-deep names p h (s.depth - 1) under (newest nodes s) refl in
-    record {
-      under = under;
-      inside = omega (arith, deep, h.wide);
-      few = omega (arith, deep);
-      starts = top_start names p h (s.depth - 1) under (newest nodes s) refl;
-      ends = omega (arith, h.fits, now-length s.pending (terms_of room));
-      aimed = top-aimed names p h (s.depth - 1) under (newest nodes s) refl;
-    }
+    rw (← now-length s.pending (terms_of room)) (Nodes.lies (length names) nodes (current s.pending (terms_of room)) s.depth s.end h.sound h.stairs h.fits h.wide w)

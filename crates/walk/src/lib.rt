@@ -1,5 +1,6 @@
 // Document 01's phase walk over lent rooms: the waiting nodes in a stack of their own, their sets side by side in the room of terms. Of the CNOTs that a
 // target has had, the terms that wait take note all at once, when their turn or another target's comes.
+// Stays: the rooms go side by side and not in one struct, since each function is lent others of them, and its signature shows which it leaves alone.
 #![tactic(auto)]
 
 ghost use Rattle.std.specs.Prelude.{◌≡◌, ◌≢◌, false, ℕ, Some, [], ◌∷◌, ◌+◌, ◌-◌, ◌%◌, ◌^◌, ◌<◌, ◌≤◌, length, get_or};
@@ -188,14 +189,8 @@ pub fn settle(room: &mut [u64], p: Pending, from: usize) -> Pending
     ensures { Settles from p result (terms_of room.old) (terms_of room.new) }
 {
     if from < p.upto {
-        let mask = p.mask;
-        let target = p.target;
-        flip_between(room, from, p.upto, mask, target);
-        Pending {
-            mask,
-            target,
-            upto: from,
-        }
+        flip_between(room, from, p.upto, p.mask, p.target);
+        Pending { upto: from, ..p }
     } else {
         p
     }
@@ -211,9 +206,8 @@ pub fn defer(room: &mut [u64], p: Pending, start: usize, mask: Parity, t: u32) -
 {
     if p.target == t {
         flip_between(room, p.upto, start, p.mask, t);
-        let both = p.mask ^ mask;
         Pending {
-            mask: both,
+            mask: p.mask ^ mask,
             target: t,
             upto: start,
         }
@@ -285,21 +279,15 @@ pub struct Taken {
     pub mask: Parity,
 }
 
-// A mask without one of its columns.
-fn without(mask: Parity, column: u32) -> Parity
-    requires { column < 128 }
-    ensures { val result ≡ xor (val mask) (2 ^ column) }
-{
-    mask ^ Parity::single(column)
-}
-
 // The highest column of a mask is taken out.
 fn take_highest(mask: Parity) -> Taken
     ensures { Peeled (val mask) result.column (val result.mask) }
 {
     let column = mask.highest();
-    let rest = without(mask, column);
-    Taken { column, mask: rest }
+    Taken {
+        column,
+        mask: mask ^ Parity::single(column),
+    }
 }
 
 // Where a node of one term goes: its target with the live candidates or, with no target yet, the highest of these with the others.

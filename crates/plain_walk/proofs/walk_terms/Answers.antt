@@ -18,9 +18,6 @@ pub loop-s-init : goal.loop-s-init
 loop-s-init c =
     walk_first _ _ (first-standing _ _ c.requires.many _ c.args.nodes.now _ (ap (set c.args.nodes.now 0) c.first.ensures) (wide (goal.at.loop-s-init c).After-first) c.all.ensures _ _ (omega (arith, room-length c.args.room.now)) _ _ _ c.requires.wires c.requires.rows c.requires.room)
 
-pub step-s-requires-clause-standing : goal.step-s-requires-clause-standing
-step-s-requires-clause-standing c = c.loop-s.invariant.standing
-
 pub loop-s-smaller : goal.loop-s-smaller
 loop-s-smaller c = walk-lighter _ _ _ _ c.loop-s.invariant _ c.step-s.ensures
 

@@ -14,7 +14,8 @@ use Rattle.terms.proofs.Room.{room-length}
 use Rattle.walk.specs.Later.{current}
 use Rattle.walk.proofs.Aims.{target-owed}
 use Rattle.walk.proofs.Deferring.{now-room, now-same, now-branched, waits-same}
-use Rattle.walk.proofs.Steps.{top-cands, top-more, apart-live, newest, lies, step-drop, step-leaf, step-pay, step_run, step-branch}
+use Rattle.walk.proofs.Nodes.{newest}
+use Rattle.walk.proofs.Steps.{top-cands, top-more, apart-live, lies, step-drop, step-leaf, step-pay, step_run, step-branch}
 use Rattle.walk.proofs.step.Goals as goal
 use Rattle.walk.proofs.step.Goals.{After-seen-live}
 
@@ -48,11 +49,11 @@ returns-in-Owes c =
 -- the candidates that the terms of the newest node have
 live : (c : After-seen-live)
     → let s = c.args.s.now in
-    let d = newest c.args.nodes.now s in
+    let d = newest c.args.nodes.now s.depth in
     Seen (val d.cands) (val c.seen-live.result) (slice d.start s.end (current s.pending (terms_of c.args.room.now)))
 live c =
     let s = c.args.s.now in
-    let d = newest c.args.nodes.now s in
+    let d = newest c.args.nodes.now s.depth in
     let l = lies _ _ _ _ _ _ _ c.requires.standing c.requires.depth_nonzero in
     λ i. c.seen-live.ensures i ∙ ap (λ (ts : List Term). bit (val d.cands) i && any i ts) (now-room s.pending d.start s.end c.args.room.now c.requires.waits.1 l.starts l.ends)
 
@@ -105,7 +106,7 @@ returns-then-is_zero c =
     let v = live (goal.at.returns-then-is_zero c).After-seen-live in
     let l = lies _ _ _ _ _ _ _ c.requires.standing c.requires.depth_nonzero in
     let s = c.args.s.now in
-    let d = newest c.args.nodes.now s in (
+    let d = newest c.args.nodes.now s.depth in (
       step-leaf _ _ c.requires.standing _ l.under _ refl _ v c.if-d-end.false (record { none = c.in_default.not-Owes }) (eqb-true _ 0 (sym c.is_zero.ensures ∙ c.if-is_zero.true)) _ _ _
           (rw (c.target-target.ensures, now-room s.pending d.start s.end c.args.room.now c.requires.waits.1 l.starts l.ends) at c.end_leaf.ensures),
       c.requires.waits.0,

@@ -1,10 +1,7 @@
 use native.Mathlib.Omega.{arith}
 use Rattle.terms.proofs.Room.{room-length}
-use Rattle.walk.proofs.Summing.{turns-first, turns_next, turns-end}
+use Rattle.walk.proofs.Summing.{turns_next, turns-end}
 use Rattle.walk.proofs.sum_turns.Goals as goal
-
-pub loop-i-init : goal.loop-i-init
-loop-i-init c = record { small = omega arith; same = turns-first _ }
 
 pub get-e-requires : goal.get-e-requires
 get-e-requires c = omega (arith, room-length c.args.set.now)
