@@ -167,20 +167,20 @@ struct Fields {
     line: i32,
 }
 
-// ---- signed numbers: the only functions that look into them
+// ---- signed numbers, as document 01 looks at them
 
 // The number, and 0 for a negative one.
 pub fn nat(x: i32) -> u32
     ensures { result ≡ Numbers.nat_of x }
 {
-    if x < 0 { 0 } else { x as u32 }
+    x.max(0).cast_unsigned()
 }
 
 // Whether it is one of 0 to n - 1.
 pub fn inside(x: i32, n: usize) -> bool
     ensures { result ≡ Numbers.inside x n }
 {
-    if x < 0 { false } else { (x as usize) < n }
+    usize::try_from(x).is_ok_and(|k| k < n)
 }
 
 pub fn same(x: i32, y: i32) -> bool
@@ -278,8 +278,8 @@ impl Fields {
         ensures { result ≡ Refusals.unused self.code self.second self.third self.turn }
     {
         let c = self.code;
-        (second(c) | (bitted(c) | same(self.second, 0)))
-            & ((third(c) | same(self.third, 0)) & (turned(c) | same(self.turn, 0)))
+        (second(c) | (bitted(c) | (self.second == 0)))
+            & ((third(c) | (self.third == 0)) & (turned(c) | (self.turn == 0)))
     }
 
     // Not 9: no wire stands twice.
@@ -287,8 +287,8 @@ impl Fields {
         ensures { result ≡ Refusals.apart self.code self.first self.second self.third }
     {
         let c = self.code;
-        !(second(c) & same(self.first, self.second))
-            & !(third(c) & (same(self.first, self.third) | same(self.second, self.third)))
+        !(second(c) & (self.first == self.second))
+            & !(third(c) & ((self.first == self.third) | (self.second == self.third)))
     }
 
     // A gate on one wire, with a turn only where the code is rz.
@@ -296,7 +296,7 @@ impl Fields {
         ensures { result ≡ Plain.single self.code self.second self.turn }
     {
         from(CODE_X, CODE_RZ, self.code)
-            & (same(self.second, 0) & ((self.code == CODE_RZ) | same(self.turn, 0)))
+            & ((self.second == 0) & ((self.code == CODE_RZ) | (self.turn == 0)))
     }
 
     // A gate on two wires, cnot or cz.
@@ -304,7 +304,7 @@ impl Fields {
         ensures { result ≡ Plain.paired self.code wires self.first self.second self.turn }
     {
         from(CODE_CNOT, CODE_CZ, self.code)
-            & (inside(self.second, wires) & (!same(self.first, self.second) & same(self.turn, 0)))
+            & (inside(self.second, wires) & ((self.first != self.second) & (self.turn == 0)))
     }
 
     // Enough for no fault, and most gates of a list pass it.
@@ -312,7 +312,7 @@ impl Fields {
         ensures { result ≡ Plain.plain self.code wires self.first self.second self.third self.turn self.line }
     {
         (self.single() | self.paired(wires))
-            & (inside(self.first, wires) & (same(self.third, 0) & !negative(self.line)))
+            & (inside(self.first, wires) & ((self.third == 0) & !negative(self.line)))
     }
 
     // The first that is wrong: 6, 7, the fields from left to right, 9, 18. The tests are made only of a gate that is not plain.
@@ -439,11 +439,10 @@ pub fn write(out: &mut [i32], i: usize, g: Gate)
 pub fn line(list: &[i32]) -> u32
     ensures { (result ≡ line_of (Numbers.gates_of list.now)) × (result < 2 ^ 31) }
 {
-    let n = list.len();
-    if n < GATE_WIDTH {
-        return 0;
+    match list.get(GATE_WIDTH - 1) {
+        Some(&line) => nat(line),
+        None => 0,
     }
-    nat(list[GATE_WIDTH - 1])
 }
 
 // The first n gates get that line.
@@ -464,13 +463,10 @@ pub fn stamp(out: &mut [i32], n: usize, line: u32)
 pub fn count_two(list: &[i32]) -> usize
     ensures { result ≡ twos (Numbers.gates_of list.now) }
 {
-    let n = list.len() / GATE_WIDTH;
-    let mut sum: usize = 0;
-    let mut i = 0;
-    while i < n {
+    let mut sum = 0;
+    for i in 0..list.len() / GATE_WIDTH {
         let c = nat(list[GATE_WIDTH * i]);
-        sum += ((c == CODE_CNOT) | (c == CODE_CZ)) as usize;
-        i += 1;
+        sum += usize::from((c == CODE_CNOT) | (c == CODE_CZ));
     }
     sum
 }
@@ -486,13 +482,10 @@ fn spent(c: u32, t: i32) -> bool
 pub fn count_t(list: &[i32]) -> usize
     ensures { result ≡ ts (Numbers.gates_of list.now) }
 {
-    let n = list.len() / GATE_WIDTH;
-    let mut sum: usize = 0;
-    let mut i = 0;
-    while i < n {
+    let mut sum = 0;
+    for i in 0..list.len() / GATE_WIDTH {
         let at = GATE_WIDTH * i;
-        sum += spent(nat(list[at]), list[at + 4]) as usize;
-        i += 1;
+        sum += usize::from(spent(nat(list[at]), list[at + 4]));
     }
     sum
 }

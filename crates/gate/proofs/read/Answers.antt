@@ -13,7 +13,7 @@ use Rattle.gate.proofs.read.Goals as goal
 
 pub returns : goal.returns
 unfolding gate_at
-returns c = 
+returns c =
     let l = c.args.list.now in
     let f = c.at-fields.result in
     let e : f ≡ fields_at l c.args.i = c.at-fields.ensures.value in
