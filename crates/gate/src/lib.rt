@@ -256,7 +256,7 @@ pub fn first_of<T: Copy>(tests: &[(bool, T)]) -> Option<T>
 impl Fields {
     ghost use Rattle.gate.specs.Fields.{fields_at, fault_of};
 
-    // Those of the gate at a place.
+    // The numbers of the gate at a place.
     fn at(list: &[i32], i: usize) -> Fields
         requires { width * i + width ≤ length list.now }
         ensures value { result ≡ fields_at list.now i }
