@@ -6,12 +6,14 @@ use Prim.Native.Nat.{ℕ, suc, ◌+◌, ◌/◌, ◌%◌, ◌≤◌, ◌<◌}
 use native.Mathlib.Nat.{add-zero}
 use native.Mathlib.Numerals.{add-one}
 use native.Mathlib.Omega.{arith}
+use borrow.Author.Tests.{ltb-true}
 use lib.ListN.{length, get_or, take, drop, set, drop_of_length-le, length-append, length-take, length-drop, take-append-drop}
 use lib.Seq.{drop-cons, take_at, drop_at, drop-drop, set_split, take-suc-set, take-set-le, drop-set-lt}
 use lib.IntN.{ℤ, pos, negsuc}
 use mir.Val.{bool_byte}
 use Rattle.text.specs.Bytes.{minus, pasted}
-use Rattle.text.specs.Signed.{below, magnitude}
+use Rattle.std.specs.Prelude.{unsigned_abs}
+use Rattle.std.specs.Int.{is_negative}
 use Rattle.text.specs.Printing.{digit, decimal, printed}
 use Rattle.text.specs.Clauses.{Writes}
 use Rattle.text.proofs.Decimals.{decimal-one, decimal-more, decimal-some, shorter}
@@ -99,26 +101,26 @@ word-all room w at i h = rw (drop_of_length-le w h) (pasted-none room (at + i))
 
 -- ---- the sign
 
-pub printed-below : (v : ℤ) → below v ≡ true → printed v ≡ minus ∷ decimal (magnitude v)
+pub printed-below : (v : ℤ) → is_negative v ≡ true → printed v ≡ minus ∷ decimal (unsigned_abs v)
 unfolding printed
-printed-below (pos n) h = absurd (true≢false (sym h))
+printed-below (pos n) h = absurd (omega (arith, ltb-true n 0 h))
 printed-below (negsuc n) h = refl
 
-pub printed-above : (v : ℤ) → below v ≡ false → printed v ≡ decimal (magnitude v)
+pub printed-above : (v : ℤ) → is_negative v ≡ false → printed v ≡ decimal (unsigned_abs v)
 unfolding printed
 printed-above (pos n) h = refl
 printed-above (negsuc n) h = absurd (true≢false h)
 
-pub sign-size : (v : ℤ) (m : Bool) → m ≡ below v → bool_byte m + length (decimal (magnitude v)) ≡ length (printed v)
+pub sign-size : (v : ℤ) (m : Bool) → m ≡ is_negative v → bool_byte m + length (decimal (unsigned_abs v)) ≡ length (printed v)
 sign-size v true e = rw (printed-below v (sym e)) (omega arith)
 sign-size v false e = rw (printed-above v (sym e)) (omega arith)
 
 -- the minus is written first, and stays where there is one
-pub writes-sign : (room : List ℕ) (at : ℕ) (v : ℤ) (m : Bool) (room' : List ℕ) (next : ℕ) → m ≡ below v → at < length room
-    → Writes (decimal (magnitude v)) (set room at minus) (at + bool_byte m) room' next → Writes (printed v) room at room' next
+pub writes-sign : (room : List ℕ) (at : ℕ) (v : ℤ) (m : Bool) (room' : List ℕ) (next : ℕ) → m ≡ is_negative v → at < length room
+    → Writes (decimal (unsigned_abs v)) (set room at minus) (at + bool_byte m) room' next → Writes (printed v) room at room' next
 writes-sign room at v true room' next e h w =
     rw (printed-below v (sym e))
-    record { text = w.text ∙ pasted-front room at minus (decimal (magnitude v)) h; behind = w.behind ∙ omega arith }
+    record { text = w.text ∙ pasted-front room at minus (decimal (unsigned_abs v)) h; behind = w.behind ∙ omega arith }
 writes-sign room at v false room' next e h w =
     rw (printed-above v (sym e))
-    record { text = w.text ∙ rw add-zero (pasted-over room at minus (decimal (magnitude v)) (decimal-some (magnitude v))); behind = w.behind ∙ omega arith }
+    record { text = w.text ∙ rw add-zero (pasted-over room at minus (decimal (unsigned_abs v)) (decimal-some (unsigned_abs v))); behind = w.behind ∙ omega arith }
