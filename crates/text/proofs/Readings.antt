@@ -35,11 +35,11 @@ unfolding word integer natural
 unsigned-is [] h = refl
 unsigned-is (b ∷ bs) h = split (eqb b minus) (λ e. let z : ◌≡◌ {A = ℕ} 0 1 = cc in absurd (omega arith)) (λ e. rw e refl)
 
-pub unsigned-none : (bs : List ℕ) → word (minus ∷ []) bs ≡ none → natural bs ≡ none → integer bs ≡ none
-unsigned-none bs h e = unsigned-is bs h ∙ rw e refl
+pub unsigned_none : (bs : List ℕ) → word (minus ∷ []) bs ≡ none → natural bs ≡ none → integer bs ≡ none
+unsigned_none bs h e = unsigned-is bs h ∙ rw e refl
 
-pub unsigned-some : (bs : List ℕ) (n : ℕ) (left : List ℕ) → word (minus ∷ []) bs ≡ none → natural bs ≡ found n left → integer bs ≡ found (pos n) left
-unsigned-some bs n left h e = unsigned-is bs h ∙ rw e refl
+pub unsigned_some : (bs : List ℕ) (n : ℕ) (left : List ℕ) → word (minus ∷ []) bs ≡ none → natural bs ≡ found n left → integer bs ≡ found (pos n) left
+unsigned_some bs n left h e = unsigned-is bs h ∙ rw e refl
 
 signed-is : (bs rest : List ℕ) → word (minus ∷ []) bs ≡ found tt rest → integer bs ≡ negative (up_to (suc largest) rest)
 unfolding word integer
@@ -52,15 +52,15 @@ signed-is (b ∷ bs) rest h =
     rw (e, is) refl)
     (λ e. let no : none ≡ found tt rest = rw e at h in let z : ◌≡◌ {A = ℕ} 0 1 = cc in absurd (omega arith))
 
-pub signed-none : (bs rest : List ℕ) → word (minus ∷ []) bs ≡ found tt rest → up_to (suc largest) rest ≡ none → integer bs ≡ none
-signed-none bs rest h e = signed-is bs rest h ∙ rw e refl
+pub signed_none : (bs rest : List ℕ) → word (minus ∷ []) bs ≡ found tt rest → up_to (suc largest) rest ≡ none → integer bs ≡ none
+signed_none bs rest h e = signed-is bs rest h ∙ rw e refl
 
-pub signed-zero : (bs rest : List ℕ) (n : ℕ) (left : List ℕ) → word (minus ∷ []) bs ≡ found tt rest → up_to (suc largest) rest ≡ found n left → n ≡ 0 → integer bs ≡ none
-signed-zero bs rest n left h e is = signed-is bs rest h ∙ rw (e, is) refl
+pub signed_zero : (bs rest : List ℕ) (n : ℕ) (left : List ℕ) → word (minus ∷ []) bs ≡ found tt rest → up_to (suc largest) rest ≡ found n left → n ≡ 0 → integer bs ≡ none
+signed_zero bs rest n left h e is = signed-is bs rest h ∙ rw (e, is) refl
 
 below : (n : ℕ) → pos 0 -ℤ pos (suc n) ≡ negsuc n
 below n = let same : suc n - 1 ≡ n = omega arith in rw (le-leb 1 (suc n) (omega arith)) (ap negsuc same)
 
-pub signed-some : (bs rest : List ℕ) (n : ℕ) (left : List ℕ) (v : ℤ) → word (minus ∷ []) bs ≡ found tt rest → up_to (suc largest) rest ≡ found n left → n ≢ 0 → v ≡ pos 0 -ℤ pos n → integer bs ≡ found v left
-signed-some bs rest zero left v h e some is = absurd (some refl)
-signed-some bs rest (suc n) left v h e some is = signed-is bs rest h ∙ rw (e, is, below n) refl
+pub signed_some : (bs rest : List ℕ) (n : ℕ) (left : List ℕ) (v : ℤ) → word (minus ∷ []) bs ≡ found tt rest → up_to (suc largest) rest ≡ found n left → n ≢ 0 → v ≡ pos 0 -ℤ pos n → integer bs ≡ found v left
+signed_some bs rest zero left v h e some is = absurd (some refl)
+signed_some bs rest (suc n) left v h e some is = signed-is bs rest h ∙ rw (e, is, below n) refl

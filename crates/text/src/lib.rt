@@ -62,11 +62,8 @@ fn read_up_to(text: &[u8], most: u32) -> Option<(u32, &[u8])>
     ensures { Reads result (Reading.up_to most text.now) }
 {
     let (digits, rest) = split_digits(text);
-    if !is_proper(digits) {
-        return None;
-    }
     let value = worth(digits);
-    if value <= most {
+    if is_proper(digits) && value <= most {
         Some((value, rest))
     } else {
         None
