@@ -141,7 +141,8 @@ pub fn read_count<'a>(text: &'a [u8], w: &[u8]) -> Option<(u32, &'a [u8])>
     read_line(rest)
 }
 
-// ---- printing: the bytes go into a lent room from a place on, and the place behind them is handed back
+// ---- printing: the bytes go into a lent room from a place on, and the place behind them is handed back.
+// Stays: C lends the room, and its part behind the answer must stay as it was, so that each writer takes the whole room and a place.
 
 pub fn write_byte(out: &mut [u8], at: usize, b: u8) -> usize
     requires { at + 1 ≤ length out.old }
@@ -155,26 +156,16 @@ pub fn write_word(out: &mut [u8], at: usize, w: &[u8]) -> usize
     requires { at + length w.now ≤ length out.old }
     ensures { Writes w.now out.old at out.new result }
 {
-    let n = w.len();
-    let mut i = 0;
-    while i < n {
-        out[at + i] = w[i];
-        i += 1;
-    }
-    at + n
+    let next = at + w.len();
+    out[at..next].copy_from_slice(w);
+    next
 }
 
 // How many digits it has.
 fn count_digits(n: u32) -> usize
     ensures { result ≡ length (Printing.decimal n) }
 {
-    let mut left = n;
-    let mut count: usize = 1;
-    while 10 <= left {
-        left /= 10;
-        count += 1;
-    }
-    count
+    n.max(1).ilog10() as usize + 1
 }
 
 fn digit(d: u32) -> u8
@@ -191,24 +182,24 @@ pub fn write_natural(out: &mut [u8], at: usize, n: u32) -> usize
 {
     let next = at + count_digits(n);
     let mut left = n;
-    let mut i = next;
-    while 10 <= left {
-        i -= 1;
+    for i in (at..next).rev() {
         out[i] = digit(left % 10);
         left /= 10;
     }
-    out[at] = digit(left);
     next
 }
 
-// The minus is always written; where there is none, the first digit takes its place.
 pub fn write_integer(out: &mut [u8], at: usize, v: i32) -> usize
     requires { at + length (Printing.printed v) ≤ length out.old }
     ensures { Writes (Printing.printed v) out.old at out.new result }
 {
-    let minus = v.is_negative();
-    out[at] = b'-';
-    write_natural(out, at + minus as usize, v.unsigned_abs())
+    let size = v.unsigned_abs();
+    if v.is_negative() {
+        let next = write_byte(out, at, b'-');
+        write_natural(out, next, size)
+    } else {
+        write_natural(out, at, size)
+    }
 }
 
 // A signed number and the byte that ends it.
@@ -216,7 +207,7 @@ pub fn write_ended(out: &mut [u8], at: usize, v: i32, end: u8) -> usize
     requires { at + length (Printing.ended_text end v) ≤ length out.old }
     ensures { Writes (Printing.ended_text end v) out.old at out.new result }
 {
-    let next = write_integer(&mut *out, at, v);
+    let next = write_integer(out, at, v);
     write_byte(out, next, end)
 }
 
@@ -225,7 +216,7 @@ pub fn write_line(out: &mut [u8], at: usize, n: u32) -> usize
     requires { at + length (Printing.line_text n) ≤ length out.old }
     ensures { Writes (Printing.line_text n) out.old at out.new result }
 {
-    let next = write_natural(&mut *out, at, n);
+    let next = write_natural(out, at, n);
     write_byte(out, next, b'\n')
 }
 
@@ -234,7 +225,7 @@ fn write_spaced(out: &mut [u8], at: usize, n: u32) -> usize
     requires { at + length (Printing.spaced_text n) ≤ length out.old }
     ensures { Writes (Printing.spaced_text n) out.old at out.new result }
 {
-    let next = write_byte(&mut *out, at, b' ');
+    let next = write_byte(out, at, b' ');
     write_natural(out, next, n)
 }
 
@@ -243,12 +234,9 @@ fn write_all_spaced(out: &mut [u8], at: usize, numbers: &[u32]) -> usize
     requires { at + line_size * length numbers.now ≤ length out.old }
     ensures { Prints (line_size * length numbers.now) (Printing.all_spaced numbers.now) out.old at out.new result }
 {
-    let n = numbers.len();
     let mut next = at;
-    let mut i = 0;
-    while i < n {
-        next = write_spaced(&mut *out, next, numbers[i]);
-        i += 1;
+    for &n in numbers {
+        next = write_spaced(out, next, n);
     }
     next
 }
@@ -258,7 +246,7 @@ pub fn write_named(out: &mut [u8], at: usize, w: &[u8], numbers: &[u32]) -> usiz
     requires { at + named_size (length w.now) (length numbers.now) ≤ length out.old }
     ensures { Prints (named_size (length w.now) (length numbers.now)) (Printing.named_text w.now numbers.now) out.old at out.new result }
 {
-    let first = write_word(&mut *out, at, w);
-    let last = write_all_spaced(&mut *out, first, numbers);
+    let first = write_word(out, at, w);
+    let last = write_all_spaced(out, first, numbers);
     write_byte(out, last, b'\n')
 }
