@@ -1,13 +1,11 @@
 -- The gates' lines: a number more, a line more, and the room that they go into.
 use mathlib.Core.Path.{◌≡◌, refl, sym, ap, ◌∙◌}
-use mathlib.Core.Logic.{◌≢◌}
-use mathlib.Core.Bool.{Bool, true, false}
 use mathlib.Core.List.{List, [], ◌∷◌, ◌++◌, append-nil, append_assoc}
 use Prim.Native.Nat.{ℕ, zero, suc, ◌+◌, ◌-◌, ◌*◌, ◌≤◌, ◌<◌}
 use native.Mathlib.Nat.{zero-add}
 use native.Mathlib.Omega.{arith}
 use lib.IntN.{ℤ, pos}
-use lib.ListN.{length, take, drop, set, replicate, length-append, length-take, length-drop, length-replicate, take-append-drop, drop_of_length-le}
+use lib.ListN.{length, take, drop, set, replicate, length-append, length-take, length-drop, take-append-drop, drop_of_length-le}
 use borrow.Rule.Slice.PartMut.{put_mid}
 use lib.Seq.{take_at, drop-drop}
 use Rattle.std.specs.Prelude.{Option, None, Some, Result, Err}
@@ -17,11 +15,10 @@ use Rattle.rules.specs.Limits.{width}
 use Rattle.rules.specs.Pass.{over}
 use Rattle.text.specs.Bytes.{pasted}
 use Rattle.text.specs.Reading.{Found, none, found, onward, ended}
-use Rattle.text.specs.Clauses.{Leaves}
 use Rattle.text.proofs.Lines.{absent}
-use Rattle.text.proofs.Pasting.{pasted-front, pasted-one, pasted-both, length-pasted}
+use Rattle.text.proofs.Pasting.{pasted-front, pasted-both}
 use Rattle.spelling.specs.Lines.{bad, good}
-use Rattle.spelling.specs.Texts.{Form, four, five, six, per_gate, unsaid}
+use Rattle.spelling.specs.Texts.{Form, per_gate, unsaid}
 use Rattle.spelling.specs.Reading.{Row, row, gate_row, Rows, rows}
 use Rattle.spelling.proofs.Forms.{per-gate-le, all_said}
 use Rattle.spelling.proofs.Spelling.{ends}

@@ -1,7 +1,6 @@
 -- A list, by where its reading ends; and the whole text.
-use mathlib.Core.Path.{◌≡◌, refl, sym, ap, ◌∙◌, subst}
-use mathlib.Core.Logic.{◌≢◌}
-use mathlib.Core.Bool.{Bool, true, false}
+use mathlib.Core.Path.{◌≡◌, refl, sym, ap, ◌∙◌}
+use mathlib.Core.Bool.{true, false}
 use mathlib.Core.List.{List, [], ◌∷◌, ◌++◌}
 use Prim.Native.Nat.{ℕ, zero, suc, ◌+◌, ◌*◌, ◌≤◌, ◌<◌}
 use native.Mathlib.Numerals.{add-one}
@@ -10,13 +9,13 @@ use borrow.Author.Tests.{lt-ltb, le-ltb, eqb-true, eqb-false}
 use lib.Dec.{eqb}
 use Rattle.std.proofs.lemmas.List.{nil_from_length}
 use lib.IntN.{ℤ}
-use lib.ListN.{length, get_or, take, drop, length-append, drop_of_length-le}
-use lib.Seq.{take_at, drop-cons}
+use lib.ListN.{length, take, drop, length-append}
+use lib.Seq.{take_at}
 use Rattle.rules.specs.Limits.{width}
 use Rattle.rules.specs.Pass.{over}
 use Rattle.text.specs.Reading.{Found, none, found, onward, count_line}
-use Rattle.spelling.specs.Lines.{Lines, bad, good}
-use Rattle.spelling.specs.Texts.{Form, form_of, Head, gates_word}
+use Rattle.spelling.specs.Lines.{bad, good}
+use Rattle.spelling.specs.Texts.{Form, form_of, gates_word}
 use Rattle.spelling.specs.Reading.{gate_row, Rows, rows, list, head_at, gathered, list_at, ending, read_text}
 use Rattle.spelling.specs.Heads.{head_of}
 use Rattle.spelling.specs.declared.Head as Code

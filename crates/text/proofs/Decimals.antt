@@ -109,6 +109,11 @@ unfolding worth
 worth-append v [] es = refl
 worth-append v (d ∷ ds) es = worth-append (10 * v + (d - nought)) ds es
 
+-- one digit more of a list of them
+pub worth_more : (ds : List ℕ) (i : ℕ) → i < length ds → worth 0 (take (suc i) ds) ≡ 10 * worth 0 (take i ds) + (get_or ds i 0 - nought)
+unfolding worth
+worth_more ds i h = ap (worth 0) (take-suc ds i 0 h) ∙ worth-append 0 (take i ds) (get_or ds i 0 ∷ [])
+
 pub worth-decimal : (n : ℕ) → worth 0 (decimal n) ≡ n
 unfolding worth
 worth-decimal n =
@@ -178,9 +183,8 @@ pub record LastDigit (ds : List ℕ) (m left : ℕ) : Type 0 where
   pub last : digit (left % 10) ≡ get_or ds m 0
 
 pub last_digit : (ds : List ℕ) (m left : ℕ) → Digital ds → m < length ds → left ≡ worth 0 (take (suc m) ds) → LastDigit ds m left
-unfolding worth
 last_digit ds m left h lt is =
     let d : ℕ = get_or ds m 0 in
     let w = digit-worth d (digital_at ds m h lt) in
-    let more : worth 0 (take (suc m) ds) ≡ 10 * worth 0 (take m ds) + (d - nought) = ap (worth 0) (take-suc ds m 0 lt) ∙ worth-append 0 (take m ds) (d ∷ []) in
+    let more = worth_more ds m lt in
     record { others = omega arith; last = omega arith }

@@ -1,23 +1,21 @@
 -- What is written into a room, one by one and one after another.
 use mathlib.Core.Path.{◌≡◌, refl, sym, ap, ◌∙◌}
-use mathlib.Core.Bool.{Bool, true, false, true≢false}
+use mathlib.Core.Bool.{true, false, true≢false}
 use mathlib.Core.List.{List, [], ◌∷◌, ◌++◌, append_assoc, append-nil}
 use Prim.Native.Nat.{ℕ, suc, ◌+◌, ◌-◌, ◌≤◌, ◌<◌}
 use native.Mathlib.Nat.{add-zero}
 use native.Mathlib.Numerals.{add-one}
 use native.Mathlib.Omega.{arith}
 use borrow.Author.Tests.{ltb-true}
-use lib.ListN.{length, get_or, take, drop, set, drop_of_length-le, length-append, length-take, length-drop, take-append-drop}
+use lib.ListN.{length, get_or, take, drop, set, length-append, length-take, length-drop, take-append-drop}
 use Rattle.std.proofs.lemmas.List.{set-append_left}
 use lib.Seq.{take-set-lt, drop-cons, take_at, drop_at, drop-drop, set_split, take-suc-set, take-set-le, drop-set-lt}
 use lib.IntN.{ℤ, pos, negsuc}
-use mir.Val.{bool_byte}
 use Rattle.text.specs.Bytes.{minus, pasted}
 use Rattle.std.specs.Prelude.{unsigned_abs}
 use Rattle.std.specs.Int.{is_negative}
-use Rattle.text.specs.Printing.{digit, decimal, printed}
+use Rattle.text.specs.Printing.{decimal, printed}
 use Rattle.text.specs.Clauses.{Writes}
-use Rattle.text.proofs.Decimals.{decimal-one, decimal-more, decimal-some, shorter}
 
 module _ {A : Type 0} (room : List A) (at : ℕ) where
   pub length-pasted : (new : List A) → at + length new ≤ length room → length (pasted room at new) ≡ length room
@@ -26,19 +24,11 @@ module _ {A : Type 0} (room : List A) (at : ℕ) where
   pub pasted-none : pasted room at [] ≡ room
   pasted-none = rw (add-zero, append-nil) (take-append-drop at room)
 
-  -- one in front of the others, and one behind them
+  -- one in front of the others
   pub pasted-front : (b : A) (new : List A) → at < length room → pasted (set room at b) (at + 1) new ≡ pasted room at (b ∷ new)
   pasted-front b new h =
       let k : at + 1 + length new ≡ at + suc (length new) = omega arith in
       rw (k, drop-set-lt (at + suc (length new)) room at b (omega arith), add-one at, take-suc-set room at b h) (simp append_assoc)
-
-  pub pasted-back : (b : A) (new : List A) → at + length new < length room → pasted (set room (at + length new) b) at new ≡ pasted room at (new ++ b ∷ [])
-  pasted-back b new h =
-      let j : ℕ = at + length new in
-      let k : at + length (new ++ b ∷ []) ≡ suc j = simp length-append (omega arith) in
-      let t : length (take j room) ≡ j = simp length-take (omega arith) in
-      let d : drop j (set room j b) ≡ b ∷ drop (suc j) room = rw (set_split room j b h) (drop_at (take j room) (b ∷ drop (suc j) room) j t) in
-      rw (k, take-set-le at room j b (omega arith), d) (simp append_assoc)
 
   pub pasted-one : (b : A) → at < length room → set room at b ≡ pasted room at (b ∷ [])
   pasted-one b h = set_split room at b h ∙ rw (add-one at) (simp append_assoc)

@@ -1,13 +1,13 @@
 -- What each reading function comes to, over plain variables.
-use Rattle.std.proofs.Common.{◌≡◌, ℕ, zero, suc, ◌+◌, ◌-◌, ◌*◌, ◌≤◌, ◌<◌, List, [], ◌∷◌, ◌++◌, Bool, true, false, cond, length, take, drop, Option, Some, None, refl, sym, ap, ◌∙◌, arith}
-use Rattle.std.specs.Prelude.{eqb, leb, nat_eq, MatchOption, ℤ, pos, negsuc, ◌-ℤ◌, ◌≢◌}
+use Rattle.std.proofs.Common.{◌≡◌, ℕ, zero, suc, ◌+◌, ◌-◌, ◌≤◌, List, [], ◌∷◌, true, false, cond, length, take, drop, Option, Some, None, refl, ap, ◌∙◌, arith}
+use Rattle.std.specs.Prelude.{eqb, nat_eq, MatchOption, ℤ, pos, negsuc, ◌-ℤ◌, ◌≢◌}
 use Rattle.std.specs.Borrow.{Bor}
 use borrow.Author.Tests.{le-leb}
 use lib.Pointwise.{pointwise}
 use Rattle.rules.proofs.Bits.{split}
-use Rattle.text.specs.Bytes.{minus, first}
-use Rattle.text.specs.Reading.{Found, none, found, digits, up_to, natural, integer, positive, negative, largest, word}
-use Rattle.text.specs.Clauses.{Reads, Leaves}
+use Rattle.text.specs.Bytes.{minus}
+use Rattle.text.specs.Reading.{none, found, up_to, natural, integer, positive, negative, largest, word}
+use Rattle.text.specs.Clauses.{Leaves}
 use Rattle.text.proofs.Grammar.{decimal-read}
 
 -- ---- a word

@@ -1,20 +1,18 @@
 -- Digits as the code counts them: the count stays at the top, and a test against a number below it decides the same.
-use Rattle.std.proofs.Common.{◌≡◌, ℕ, ◌+◌, ◌-◌, ◌*◌, ◌<◌, min, List, [], ◌∷◌, ◌++◌, Bool, true, false, cond, length, take, drop, Option, Some, None, refl, sym, ap, ◌∙◌, arith}
-use Rattle.std.specs.Prelude.{leb, eqb, MatchOption}
-use Rattle.std.specs.Borrow.{Bor}
-use Rattle.std.specs.Prelude.{nat_eq}
-use lib.Pointwise.{pointwise}
-use lib.Seq.{take_at}
-use Rattle.text.specs.Bytes.{nought, is_digit}
-use Rattle.text.specs.Reading.{Found, none, found, digits, worth, word}
-use Rattle.text.specs.Clauses.{Leaves, top}
-use Rattle.text.proofs.Grammar.{digits-front}
+use Rattle.std.proofs.Common.{◌≡◌, ℕ, ◌+◌, ◌<◌, min, List, [], ◌∷◌, Bool, true, false, cond, length, take, refl, sym, ap, ◌∙◌, arith}
+use borrow.Author.Tests.{leb-true, leb-false, lt-leb}
+use lib.Dec.{leb}
+use Rattle.rules.proofs.Bits.{split}
+use Rattle.text.specs.Bytes.{is_digit}
+use Rattle.text.specs.Reading.{digits}
+use Rattle.text.specs.Clauses.{top}
 
--- one digit more
-pub worth_push : (v : ℕ) (ds : List ℕ) (d : ℕ) → worth v (ds ++ d ∷ []) ≡ 10 * worth v ds + (d - nought)
-unfolding worth
-worth_push v [] d = refl
-worth_push v (e ∷ ds) d = worth_push (10 * v + (e - nought)) ds d
+-- a test of a count that stays at the top against a number below the top
+pub top-test : (v most : ℕ) → most < top → leb (min top v) most ≡ leb v most
+top-test v most h =
+    split (leb v most)
+    (λ e. let s : min top v ≡ v = omega (arith, leb-true v most e) in rw s)
+    (λ e. let big : most < v = leb-false v most e in lt-leb (min top v) most (omega arith) ∙ sym e)
 
 -- the digits are the front of the text
 pub digits-taken : (bs : List ℕ) → take (length (digits bs)) bs ≡ digits bs

@@ -1,6 +1,5 @@
 -- `reading::read_head` meets its contract: a line for each number, and the first.
-use Rattle.std.proofs.Common.{◌≡◌, refl, ap, ◌∙◌}
-use Rattle.spelling.specs.Lines.{good}
+use Rattle.std.proofs.Common.{refl}
 use Rattle.spelling.specs.Reading.{head_at}
 use Rattle.reading.proofs.Heads.{ahead}
 use Rattle.reading.proofs.read_head.Goals as goal

@@ -1,5 +1,4 @@
 -- `reading::read_list` meets its contract.
-use Rattle.std.proofs.Common.{◌≡◌, ◌<◌, ap, ◌∙◌, arith}
 use Rattle.std.proofs.lemmas.Result.{err_from_is_err_and}
 use Rattle.reading.specs.declared.Wrong.TheVariants.{Line}
 use Rattle.reading.proofs.Gates.{err_or}

@@ -1,5 +1,5 @@
 -- `reading::read_row` meets its contract: the numbers that are left of the line come to what all of it does.
-use Rattle.std.proofs.Common.{◌≡◌, length, sym, ap, ◌∙◌, arith}
+use Rattle.std.proofs.Common.{length, sym, ap, ◌∙◌, arith}
 use mir.Syntax.{w32}
 use mir.ValLaws.{to_z-of_z}
 use Rattle.text.proofs.Pasting.{pasted-none}

@@ -1,5 +1,5 @@
 -- `reading::read_row` meets its contract: the numbers that are left of the line come to what all of it does.
-use Rattle.std.proofs.Common.{◌≡◌, ◌+◌, ◌-◌, length}
+use Rattle.std.proofs.Common.{◌≡◌, ◌-◌}
 use Rattle.text.specs.Bytes.{pasted}
 use Rattle.spelling.specs.Reading.{row}
 use Rattle.reading.proofs.read_row.Given as goal

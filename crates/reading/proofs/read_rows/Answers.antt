@@ -1,5 +1,5 @@
 -- `reading::read_rows` meets its contract: the lines that are left come to what all of them do.
-use Rattle.std.proofs.Common.{◌≡◌, ◌+◌, ◌*◌, length, sym, ap, ◌∙◌, arith}
+use Rattle.std.proofs.Common.{◌≡◌, ◌+◌, ◌*◌, sym, ap, ◌∙◌, arith}
 use Rattle.std.proofs.lemmas.Result.{err_from_is_err_and}
 use Rattle.rules.specs.Limits.{width}
 use Rattle.text.proofs.Pasting.{pasted-none}

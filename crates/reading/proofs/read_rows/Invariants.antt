@@ -1,5 +1,5 @@
 -- `reading::read_rows` meets its contract: the lines that are left come to what all of them do.
-use Rattle.std.proofs.Common.{◌≡◌, ◌+◌, ◌-◌, ◌*◌, length}
+use Rattle.std.proofs.Common.{◌≡◌, ◌+◌, ◌-◌, ◌*◌}
 use Rattle.rules.specs.Limits.{width}
 use Rattle.text.specs.Bytes.{pasted}
 use Rattle.spelling.specs.Texts.{form_of}

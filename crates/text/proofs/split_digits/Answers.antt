@@ -1,5 +1,5 @@
 -- `text::split_digits` meets its contract: the digits end before the first byte that is none.
-use Rattle.std.proofs.Common.{◌≡◌, ℕ, List, true, false, length, take, drop, refl, sym, ◌∙◌, rules}
+use Rattle.std.proofs.Common.{◌≡◌, ℕ, List, true, false, length, refl, sym, ◌∙◌, rules}
 use Rattle.std.proofs.lemmas.Iterator.{YieldsList-from_slice, IsFirst-from_position, index_from_first}
 use borrow.Author.Tests.{tests}
 use Rattle.text.specs.Bytes.{is_digit}

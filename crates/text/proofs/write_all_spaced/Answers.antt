@@ -1,5 +1,5 @@
 -- `text::write_all_spaced` meets its contract: the numbers so far, and those left.
-use Rattle.std.proofs.Common.{◌≡◌, ℕ, ◌+◌, ◌*◌, length, get_or, ◌∙◌, arith}
+use Rattle.std.proofs.Common.{◌≡◌, ℕ, ◌+◌, ◌*◌, length, get_or, arith}
 use Rattle.text.specs.Printing.{spaced_text}
 use Rattle.text.specs.Clauses.{line_size}
 use Rattle.text.proofs.Sizes.{spaced-short}

@@ -1,5 +1,5 @@
 -- `text::write_all_spaced` meets its contract: the numbers so far, and those left.
-use Rattle.std.proofs.Common.{◌≡◌, ◌*◌, length, drop}
+use Rattle.std.proofs.Common.{◌*◌, drop}
 use Rattle.text.specs.Printing.{all_spaced}
 use Rattle.text.specs.Clauses.{line_size}
 use Rattle.text.proofs.Begun.{Begun}

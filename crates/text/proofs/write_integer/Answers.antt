@@ -1,12 +1,11 @@
 -- `text::write_integer` meets its contract: the minus, and the digits behind it or alone.
-use Rattle.std.proofs.Common.{◌≡◌, ◌≤◌, ◌+◌, [], ◌∷◌, length, ap, sym, ◌∙◌, arith, true, false}
+use Rattle.std.proofs.Common.{◌≡◌, [], ◌∷◌, length, ap, sym, ◌∙◌, true, false}
 use Rattle.std.specs.Prelude.{unsigned_abs}
 use Rattle.std.specs.Int.{is_negative}
 use mir.Syntax.{w32}
 use mir.ValLaws.{to_z-of_z}
 use Rattle.text.specs.Bytes.{minus}
 use Rattle.text.specs.Printing.{printed, decimal}
-use Rattle.text.specs.Clauses.{Writes}
 use Rattle.text.proofs.Pasting.{printed-below, printed-above, room-first, room-second, writes-both}
 use Rattle.text.proofs.write_integer.Goals as goal
 use Rattle.text.proofs.write_integer.Goals.{After-is_negative}

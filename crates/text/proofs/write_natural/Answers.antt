@@ -1,9 +1,8 @@
 -- `text::write_natural` meets its contract: the last digits stand, and the others are left.
-use Rattle.std.proofs.Common.{◌≡◌, ℕ, List, [], suc, ◌+◌, ◌-◌, ◌<◌, length, take, drop, sym, ap, ◌∙◌, arith}
+use Rattle.std.proofs.Common.{◌≡◌, [], suc, ◌+◌, ◌-◌, ◌<◌, length, drop, sym, ◌∙◌, arith}
 use lib.ListN.{drop_of_length-le}
 use Rattle.std.proofs.lemmas.List.{take_all}
 use Rattle.text.specs.Printing.{decimal}
-use Rattle.text.specs.Reading.{worth}
 use Rattle.text.proofs.Decimals.{digital-decimal, worth-decimal, last_digit}
 use Rattle.text.proofs.Pasting.{pasted-none, last_before}
 use Rattle.text.proofs.write_natural.Goals as goal
