@@ -12,7 +12,7 @@ const LARGEST: u32 = 2147483647;
 
 // ---- reading: what stands at the front of a text, and the text behind it; nothing where it doesn't stand there
 
-// One digit more. It stays at the largest u32, which is past every limit.
+// One digit more. It stays at the largest u32, which is past every limit; below '0' stands for 0, as in the definition.
 fn grown(v: u32, b: u8) -> u32
     ensures { result ≡ min top (10 * v + (b - Bytes.nought)) }
 {
