@@ -1,4 +1,4 @@
--- `trace::write_pieces` meets its contract: the lines so far, and those of the pieces that are left.
+-- `say` of `trace::Pieces` meets its contract: the lines so far, and those of the pieces that are left.
 use mathlib.Core.Path.{◌≡◌}
 use mathlib.Core.List.{List}
 use Prim.Native.Nat.{ℕ, ◌-◌, ◌*◌, ◌≤◌}
@@ -11,7 +11,7 @@ use Rattle.text.proofs.Begun.{Begun}
 use Rattle.scan.specs.Scanning.{rest}
 use Rattle.origin.specs.Origins.{origins, origins_text}
 use Rattle.origin.specs.Clauses.{origin_size}
-use Rattle.trace.proofs.write_pieces.Given as goal
+use Rattle.trace.proofs.PiecesProgram.say.Given as goal
 
 -- what is told of some gates
 abbrev pub told : Plan → List Gate → List ℕ
