@@ -1,7 +1,8 @@
 -- From what reading says to the answer.
-use mathlib.Core.Path.{◌≡◌, refl, sym, ap, ◌∙◌}
+use mathlib.Core.Path.{◌≡◌, refl, sym, ap}
 use mathlib.Core.Bool.{false, true≢false}
 use mathlib.Core.List.{List}
+use Rattle.std.specs.Prelude.{Ok, Err}
 use Prim.Native.Nat.{ℕ, ◌*◌, ◌≤◌, ◌<◌}
 use native.Mathlib.Omega.{arith}
 use borrow.Author.Tests.{le-ltb, lt-ltb}
@@ -18,12 +19,12 @@ use Rattle.spelling.specs.Reading.{Read, malformed, many, read, read_text}
 use Rattle.spelling.specs.Heads.{head_of}
 use Rattle.spelling.specs.declared.Head as HeadIs
 use Rattle.spelling.proofs.Spelling.{text-read}
-use Rattle.reading.specs.Clauses.{ReadsText, met}
-use Rattle.reading.specs.declared.Read.TheVariants.{Good}
+use Rattle.reading.specs.Clauses.{ReadsText, answered, met}
+use Rattle.reading.specs.declared.Wrong.{Wrong}
+use Rattle.reading.specs.declared.Wrong.TheVariants.{Line, Many}
 use Rattle.saying.specs.Answer.{Judge, Next, refusal, judged, judged_by, read_as, answer_by}
-use Rattle.saying.specs.declared.Reason.{Reason}
 use Rattle.saying.specs.declared.Reason.TheVariants.{Long}
-use Rattle.saying.specs.Reasons.{place_of, told}
+use Rattle.saying.specs.Reasons.{reason_of}
 use Rattle.saying.specs.Clauses.{Declined, Held}
 use Rattle.saying.proofs.Places.{line_of, text-line}
 
@@ -39,17 +40,15 @@ answer-read next text r h e = rw (le-ltb list_bytes (length text) h) (ap (read_a
 pub long : (text : List ℕ) → list_bytes < length text → Declined answer_by text Long
 long text h = record { is = λ next. answer-long next text h; small = omega arith }
 
-pub declined : (text : List ℕ) (e : Reason) (r : Read) → length text ≤ list_bytes → r ≡ read_text list_gates text → ((next : Next) → read_as next r ≡ told e) → place_of e ≤ line_of r
-    → Declined answer_by text e
-declined text e r short is says at = record {
-  is = λ next. answer-read next text r short is ∙ says next;
-  small = omega (arith, at, ap line_of is, text-line list_gates text);
-}
+pub declined : (text : List ℕ) (room' : List ℤ) (w : Wrong) → length text ≤ list_bytes → answered room' (Err w) ≡ read_text list_gates text → Declined answer_by text (reason_of w)
+declined text room' (Line k) short is = record { is = λ next. answer-read next text (malformed k) short is; small = omega (arith, ap line_of is, text-line list_gates text) }
+declined text room' (Many k) short is = record { is = λ next. answer-read next text (many k) short is; small = omega (arith, ap line_of is, text-line list_gates text) }
 
-pub held : (text : List ℕ) (room room' : List ℤ) (h : HeadIs.Head) (n : ℕ) → length text ≤ list_bytes → ReadsText text list_gates room room' (Good h n) → Held text room' h n
-held text room room' h n short t =
+pub held : (text : List ℕ) (room room' : List ℤ) (p : HeadIs.Head × ℕ) → length text ≤ list_bytes → ReadsText text list_gates room room' (Ok p) → Held text room' p.0 p.1
+held text room room' p short t =
+    let n = p.1 in
     let size : length (met list_gates 1 text) ≡ width * n = t.counts in
-    let l = (text-read list_gates (head_of h) (take (width * n) room') text (sym t.answer)).1 in
+    let l = (text-read list_gates (head_of p.0) (take (width * n) room') text (sym t.answer)).1 in
     let fits : width * n ≤ length room' = omega (arith, ap length t.numbers, length-append (met list_gates 1 text) (drop (length (met list_gates 1 text)) room)) in
     record {
       most = omega (arith, l.few, length-take-le (width * n) room' fits);

@@ -2,9 +2,17 @@
 use Rattle.std.specs.Prelude.{true, List, [], ◌∷◌, ℕ}
 use Rattle.gate.specs.Verdicts.{refusal_of}
 use Rattle.spelling.specs.Texts.{refusal_text}
+use Rattle.reading.specs.declared.Wrong.{Wrong}
+use Rattle.reading.specs.declared.Wrong.TheVariants as Of
+use Rattle.reading.specs.declared.Wrong.TheVariants.{Line}
 use Rattle.saying.specs.Answer.{Answer}
 use Rattle.saying.specs.declared.Reason.{Reason}
 use Rattle.saying.specs.declared.Reason.TheVariants.{Long, Malformed, Many, Unspelled, List as OfList}
+
+-- a text that isn't read
+abbrev pub reason_of : Wrong → Reason
+reason_of (Line k) = Malformed k
+reason_of (Of.Many k) = Many k
 
 -- the line or the gate
 abbrev pub place_of : Reason → ℕ

@@ -8,11 +8,11 @@ ghost use Rattle.spelling.specs.Texts as Texts;
 ghost use Rattle.spelling.specs.Heads.{head_of};
 ghost use Rattle.saying.specs.Answer as Paper;
 ghost use Rattle.saying.specs.declared.Reason.TheVariants as Reasons;
-ghost use Rattle.saying.specs.Reasons.{place_of, three, told};
+ghost use Rattle.saying.specs.Reasons.{reason_of, place_of, three, told};
 ghost use Rattle.saying.specs.Clauses.{Says, Few, Takes, Given};
 
 use gate::Refusal;
-use reading::Read;
+use reading::Wrong;
 use rules::GATE_WIDTH;
 use spelling::{Head, LIST_BYTES, LIST_GATES};
 
@@ -59,6 +59,17 @@ impl From<Refusal> for Reason {
     }
 }
 
+impl From<Wrong> for Reason {
+    ghost from_gives = { λ w e. e ≡ reason_of w };
+
+    fn from(w: Wrong) -> Reason {
+        match w {
+            Wrong::Line(line) => Reason::Malformed(line),
+            Wrong::Many(line) => Reason::Many(line),
+        }
+    }
+}
+
 // What is printed for it.
 pub fn refuse(out: &mut [u8], reason: Reason) -> Said
     requires room { answer_bytes ≤ length out.old }
@@ -79,11 +90,7 @@ pub fn take(text: &[u8], numbers: &mut [i32]) -> Result<(Head, usize), Reason>
     if LIST_BYTES < text.len() {
         return Err(Reason::Long);
     }
-    match reading::read_text(text, LIST_GATES, numbers) {
-        Read::Malformed(line) => Err(Reason::Malformed(line)),
-        Read::Many(line) => Err(Reason::Many(line)),
-        Read::Good(head, n) => Ok((head, n)),
-    }
+    Ok(reading::read_text(text, LIST_GATES, numbers)?)
 }
 
 // A program from text to text: how it takes a text, what is known of a list that was read, and what it says of one.
