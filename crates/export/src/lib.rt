@@ -9,7 +9,6 @@ ghost use Rattle.saying.specs.Clauses.{any_list, Few};
 ghost use Rattle.export.specs.Answer as Paper;
 ghost use Rattle.export.specs.Clauses.{Spells, Exports};
 
-use gate::Verdict;
 use rules::{GATE_TERMS, GATE_WIDTH, MAX_COLUMNS, STEP_WIDTH, TERM_WIDTH};
 use saying::{Program, Reason, Said};
 use spelling::{ANSWER_BYTES, Head, LIST_GATES};
@@ -21,25 +20,19 @@ fn check(numbers: &[i32], head: Head) -> Result<(), Reason>
 {
     let n = numbers.len();
     let g = n / GATE_WIDTH;
-    let verdict = gate::check_list(
+    gate::check_list(
         numbers,
         head.wires as usize,
         head.bits as usize,
         n,
         TERM_WIDTH * (GATE_TERMS * g),
         STEP_WIDTH * (g + MAX_COLUMNS),
-    );
-    match verdict {
-        Verdict::Refused(r) => Err(Reason::List(r)),
-        Verdict::Accepted => {
-            let first = qasm::unspelled(numbers);
-            if first < g {
-                Err(Reason::Unspelled(first))
-            } else {
-                Ok(())
-            }
-        }
+    )?;
+    let first = qasm::unspelled(numbers);
+    if first < g {
+        return Err(Reason::Unspelled(first));
     }
+    Ok(())
 }
 
 // The program.

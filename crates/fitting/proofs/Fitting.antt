@@ -1,5 +1,6 @@
 -- From what the entry point says to the pass in rooms exactly as long as a list needs.
 use mathlib.Core.Path.{◌≡◌, refl, sym, ap, ◌∙◌}
+use Rattle.std.specs.Prelude.{Result as Answered, Ok, Err}
 use mathlib.Core.List.{List, ◌++◌, append_assoc}
 use Prim.Native.Nat.{ℕ, ◌-◌, ◌*◌, ◌/◌}
 use native.Mathlib.Omega.{arith}
@@ -19,12 +20,11 @@ use Rattle.gate.specs.declared.Refusal.{Refusal}
 use Rattle.gate.specs.Verdicts.{refusal_of}
 use Rattle.cnot_min.specs.Minimizing.{counted, Minimizes}
 use Rattle.cnot_min.specs.declared.Counts.{Counts}
-use Rattle.cnot_min.specs.declared.Answer.TheVariants.{Refused, Done}
 use Rattle.spelling.specs.Texts.{Head}
 use Rattle.saying.specs.Answer.{exact}
 use Rattle.saying.specs.Clauses.{Few}
 use Rattle.saying.proofs.Checking.{exact-is, exact-place}
-use Rattle.fitting.specs.Clauses.{Denied, Written}
+use Rattle.fitting.specs.Clauses.{Denied, Written, Fits}
 use Rattle.fitting.proofs.Few.{counts-small}
 
 after-at : (l : List ℤ) (w b q t : ℕ) (out : List ℤ) (terms steps : List ℕ) (v : Verdict) → verdict l w b (length out) (length terms) (length steps) ≡ v
@@ -60,7 +60,7 @@ module _ (h : Head) (l out : List ℤ) (terms steps : List ℕ) (out' : List ℤ
   after_is : Pass.after l h.wires h.bits h.qubits h.terms out terms steps ≡ Pass.after_as (exact h l) gs new out terms steps
   after_is = after-at l h.wires h.bits h.qubits h.terms out terms steps (exact h l) (rw (eo, et, es) (sym (exact-is h l)))
 
-  pub fits-refused : (r : Refusal) → Minimizes l h.wires h.bits h.qubits h.terms out terms steps (Refused r) out' terms' steps' → Denied exact h l r
+  fits-refused : (r : Refusal) → Minimizes l h.wires h.bits h.qubits h.terms out terms steps (Err r) out' terms' steps' → Denied exact h l r
   fits-refused r m =
       let is : refused (refusal_of r) ≡ exact h l = ap as_verdict (m.answer ∙ ap (λ (x : Pass.After). x.answer) after_is) ∙ judged-as (exact h l) gs new out terms steps in
       record {
@@ -68,7 +68,7 @@ module _ (h : Head) (l out : List ℤ) (terms steps : List ℕ) (out' : List ℤ
         place = omega (arith, ap place_of is, few.few, exact-place h l);
       }
 
-  pub fits-done : (c : Counts) → Minimizes l h.wires h.bits h.qubits h.terms out terms steps (Done c) out' terms' steps' → Written exact h l c out'
+  pub fits-done : (c : Counts) → Minimizes l h.wires h.bits h.qubits h.terms out terms steps (Ok c) out' terms' steps' → Written exact h l c out'
   unfolding Pass.out_after
   fits-done c m =
       let is : accepted ≡ exact h l = ap as_verdict (m.answer ∙ ap (λ (x : Pass.After). x.answer) after_is) ∙ judged-as (exact h l) gs new out terms steps in
@@ -89,3 +89,7 @@ module _ (h : Head) (l out : List ℤ) (terms steps : List ℕ) (out' : List ℤ
           counts = same;
         };
       }
+
+  pub fits : (a : Answered Counts Refusal) → Minimizes l h.wires h.bits h.qubits h.terms out terms steps a out' terms' steps' → Fits exact h l a out'
+  fits (Err r) m = fits-refused r m
+  fits (Ok c) m = fits-done c m

@@ -9,7 +9,7 @@ ghost use Rattle.saying.specs.Answer as Saying;
 ghost use Rattle.saying.specs.Clauses.{Few};
 ghost use Rattle.fitting.specs.Clauses.{Exact, Fits};
 
-use cnot_min::{Answer, Counts};
+use cnot_min::Counts;
 use gate::Refusal;
 use rules::{GATE_TERMS, GATE_WIDTH, MAX_COLUMNS, STEP_WIDTH, TERM_WIDTH};
 use spelling::{Head, LIST_GATES};
@@ -43,7 +43,7 @@ impl Engine for CnotMin {
         terms: &mut [u64],
         steps: &mut [u32],
     ) -> Result<Counts, Refusal> {
-        let answer = cnot_min::cnot_min_with(
+        cnot_min::cnot_min_with(
             numbers,
             head.wires as usize,
             head.bits as usize,
@@ -52,11 +52,7 @@ impl Engine for CnotMin {
             new,
             terms,
             steps,
-        );
-        match answer {
-            Answer::Refused(r) => Err(r),
-            Answer::Done(c) => Ok(c),
-        }
+        )
     }
 }
 

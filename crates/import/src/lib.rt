@@ -8,7 +8,7 @@ ghost use Rattle.spelling.specs.Sizes.{list_gates, answer_bytes};
 ghost use Rattle.import.specs.Answer as Paper;
 ghost use Rattle.import.specs.Clauses.{right, Takes, Imports};
 
-use gate::Refusal;
+use gate::{Fault, Refusal};
 use qasm::Imported;
 use rules::GATE_WIDTH;
 use saying::{Program, Reason, Said};
@@ -34,9 +34,8 @@ pub fn take(text: &[u8], numbers: &mut [i32]) -> Result<(Head, usize), Reason>
         Imported::Wrong(line) => Err(Reason::Unspelled(line)),
         Imported::Many => Err(Reason::Many(0)),
         Imported::Large => Err(Reason::List(Refusal {
-            number: 3,
+            fault: Fault::Limits,
             place: 0,
-            field: 0,
         })),
         Imported::Good(wires, bits, n) => {
             let head = Head {
