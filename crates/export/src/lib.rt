@@ -28,11 +28,10 @@ fn check(numbers: &[i32], head: Head) -> Result<(), Reason>
         TERM_WIDTH * (GATE_TERMS * g),
         STEP_WIDTH * (g + MAX_COLUMNS),
     )?;
-    let first = qasm::unspelled(numbers);
-    if first < g {
-        return Err(Reason::Unspelled(first));
+    match qasm::unspelled(numbers) {
+        Some(first) => Err(Reason::Unspelled(first)),
+        None => Ok(()),
     }
-    Ok(())
 }
 
 // The program.

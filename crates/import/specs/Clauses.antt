@@ -10,10 +10,21 @@ use Rattle.spelling.specs.declared.Head.{Head}
 use Rattle.saying.specs.Answer.{Next, exact}
 use Rattle.saying.specs.Clauses.{Says, Few, Declined}
 use Rattle.saying.specs.declared.Said.{Said}
+use Rattle.gate.specs.declared.Fault.TheVariants.{Limits}
 use Rattle.saying.specs.declared.Reason.{Reason}
+use Rattle.saying.specs.declared.Reason.TheVariants.{Unspelled, Many, List as OfList}
+use Rattle.qasm.specs.declared.Wrong.{Wrong}
+use Rattle.qasm.specs.declared.Wrong.TheVariants as Of
+use Rattle.qasm.specs.declared.Wrong.TheVariants.{Line}
 use Rattle.qasm.specs.Import.{list, read_qasm}
 use Rattle.qasm.specs.Export.{qasm_text, relined}
 use Rattle.import.specs.Answer.{head_for, answer_by, answer}
+
+-- a text that isn't read: 13, 12 or 3
+abbrev pub reason_of : Wrong → Reason
+reason_of (Line k) = Unspelled k
+reason_of Of.Many = Many 0
+reason_of Of.Large = OfList (record { fault = Limits; place = 0 })
 
 -- a list that was read is never refused
 abbrev pub right : Texts.Head → List ℤ → Type 0

@@ -1,15 +1,15 @@
 // Import: a laboratory's text, OpenQASM 2.0, as our list's text, or its refusal.
 #![tactic(auto)]
 
-ghost use Rattle.std.specs.Prelude.{◌*◌, ◌≤◌, length};
+ghost use Rattle.std.specs.Prelude.{◌≡◌, ◌*◌, ◌≤◌, length};
 ghost use Rattle.std.proofs.Math.Nat.{le_refl};
 ghost use Rattle.rules.specs.Limits.{width};
 ghost use Rattle.spelling.specs.Sizes.{list_gates, answer_bytes};
 ghost use Rattle.import.specs.Answer as Paper;
-ghost use Rattle.import.specs.Clauses.{right, Takes, Imports};
+ghost use Rattle.import.specs.Clauses.{reason_of, right, Takes, Imports};
 
 use gate::{Fault, Refusal};
-use qasm::Imported;
+use qasm::Wrong;
 use rules::GATE_WIDTH;
 use saying::{Program, Reason, Said};
 use spelling::{ANSWER_BYTES, Head, LIST_BYTES, LIST_GATES};
@@ -22,6 +22,20 @@ pub const TERM_CAP: u32 = 512;
 // `head 5` with 6: each gate shows its line.
 const LINED: u32 = GATE_WIDTH as u32;
 
+// Why a laboratory's text isn't read.
+fn reason_of(w: Wrong) -> Reason
+    ensures { result ≡ reason_of w }
+{
+    match w {
+        Wrong::Line(line) => Reason::Unspelled(line),
+        Wrong::Many => Reason::Many(0),
+        Wrong::Large => Reason::List(Refusal {
+            fault: Fault::Limits,
+            place: 0,
+        }),
+    }
+}
+
 // 10, then line by line 13, then 12 and 3: the head, and how many gates. Their numbers go into the room.
 pub fn take(text: &[u8], numbers: &mut [i32]) -> Result<(Head, usize), Reason>
     requires { width * list_gates ≤ length numbers.old }
@@ -31,13 +45,7 @@ pub fn take(text: &[u8], numbers: &mut [i32]) -> Result<(Head, usize), Reason>
         return Err(Reason::Long);
     }
     match qasm::read_qasm(text, LIST_GATES, numbers) {
-        Imported::Wrong(line) => Err(Reason::Unspelled(line)),
-        Imported::Many => Err(Reason::Many(0)),
-        Imported::Large => Err(Reason::List(Refusal {
-            fault: Fault::Limits,
-            place: 0,
-        })),
-        Imported::Good(wires, bits, n) => {
+        Ok((wires, bits, n)) => {
             let head = Head {
                 wires,
                 bits,
@@ -47,6 +55,7 @@ pub fn take(text: &[u8], numbers: &mut [i32]) -> Result<(Head, usize), Reason>
             };
             Ok((head, n))
         }
+        Err(w) => Err(reason_of(w)),
     }
 }
 

@@ -4,7 +4,7 @@
 ghost use Rattle.plain_list.specs.Answer.{plain_exact};
 ghost use Rattle.plain_list.specs.Clauses.{Plains};
 
-use cnot_min::{Answer, Counts};
+use cnot_min::Counts;
 use fitting::Engine;
 use gate::Refusal;
 use list::ByEngine;
@@ -26,7 +26,7 @@ impl Engine for Plain {
         steps: &mut [u32],
     ) -> Result<Counts, Refusal> {
         let mut whole = [0i32; GATE_WIDTH * WHOLE_GATES];
-        let answer = plain::cnot_min_plain(
+        plain::cnot_min_plain(
             numbers,
             head.wires as usize,
             head.bits as usize,
@@ -36,11 +36,7 @@ impl Engine for Plain {
             terms,
             steps,
             &mut whole,
-        );
-        match answer {
-            Answer::Refused(r) => Err(r),
-            Answer::Done(c) => Ok(c),
-        }
+        )
     }
 }
 

@@ -1,18 +1,18 @@
 -- `export::check` meets its contract: refused as the list is, by its first gate that isn't spelled, or not.
 use mathlib.Core.Path.{sym, ap, ◌∙◌}
 use native.Mathlib.Omega.{arith}
-use Rattle.gate.specs.Verdicts.{verdict_of}
+use Rattle.std.proofs.lemmas.Result.{err_from_is_err_and}
 use Rattle.saying.proofs.Checking.{exact-is}
 use Rattle.export.proofs.Answering.{refused-list, unspelled-list, spelled-list}
 use Rattle.export.proofs.check.Goals as goal
 
-pub returns-in-Refused : goal.returns-in-Refused
-returns-in-Refused c = refused-list _ _ c.requires c.in-Refused.r (exact-is _ _ ∙ sym c.in-Refused.ensures)
+pub returns-in_err-check_list : goal.returns-in_err-check_list
+returns-in_err-check_list c =
+    let is = err_from_is_err_and c.from_residual.result c.from_residual.ensures.1 in
+    rw (is.1, is.2) (refused-list _ _ c.requires c.in_err-check_list.field-0.0 (exact-is _ _ ∙ sym c.in_err-check_list.ensures))
 
-pub returns-then-first-g : goal.returns-then-first-g
-returns-then-first-g c =
-    let u = c.unspelled-first.ensures in
-    rw u (unspelled-list _ _ c.requires (exact-is _ _ ∙ sym c.in-Accepted.ensures) (omega (arith, u, c.if-first-g.true)))
+pub returns-in-Some : goal.returns-in-Some
+returns-in-Some c = let u = c.in-Some.ensures in rw u.index (unspelled-list _ _ c.requires (exact-is _ _ ∙ sym c.in_ok-check_list.ensures) (omega (arith, u.index, u.inside)))
 
-pub returns-else-first-g : goal.returns-else-first-g
-returns-else-first-g c = spelled-list _ _ c.requires (exact-is _ _ ∙ sym c.in-Accepted.ensures) (omega (arith, c.unspelled-first.ensures, c.if-first-g.false))
+pub returns-in-None : goal.returns-in-None
+returns-in-None c = spelled-list _ _ c.requires (exact-is _ _ ∙ sym c.in_ok-check_list.ensures) (omega (arith, c.in-None.ensures.index))

@@ -4,15 +4,10 @@ use lib.ListN.{length-replicate}
 use Prim.Native.Nat.{◌*◌}
 use Rattle.rules.specs.Limits.{width, whole_gates}
 use Rattle.spelling.specs.Heads.{head_of}
-use Rattle.plain_list.proofs.Fitting.{fits-refused, fits-done}
+use Rattle.plain_list.proofs.Fitting.{fits}
 use Rattle.plain_list.proofs.PlainEngine.pass.Goals as goal
 
-pub returns-in-Refused : goal.returns-in-Refused
-returns-in-Refused c =
+pub returns : goal.returns
+returns c =
     let e = c.requires.exact in
-    fits-refused (head_of c.args.head) _ _ _ _ _ _ _ _ _ c.requires.few e.gates e.term_room e.step_room (length-replicate (width * whole_gates) (pos 0)) _ c.in-Refused.ensures
-
-pub returns-in-Done : goal.returns-in-Done
-returns-in-Done c =
-    let e = c.requires.exact in
-    fits-done (head_of c.args.head) _ _ _ _ _ _ _ _ _ c.requires.few e.gates e.term_room e.step_room (length-replicate (width * whole_gates) (pos 0)) _ c.in-Done.ensures
+    fits (head_of c.args.head) _ _ _ _ _ _ _ _ _ c.requires.few e.gates e.term_room e.step_room (length-replicate (width * whole_gates) (pos 0)) _ c.cnot_min_plain.ensures
