@@ -46,7 +46,11 @@ impl Reason {
             Reason::Malformed(line) => [11, line as u32, 0],
             Reason::Many(line) => [12, line as u32, 0],
             Reason::Unspelled(place) => [13, place as u32, 0],
-            Reason::List(r) => [r.fault.number() as u32, r.place as u32, r.fault.field() as u32],
+            Reason::List(r) => [
+                r.fault.number() as u32,
+                r.place as u32,
+                r.fault.field() as u32,
+            ],
         }
     }
 }

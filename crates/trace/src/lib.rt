@@ -21,7 +21,7 @@ ghost use Rattle.trace.specs.Answer as Paper;
 ghost use Rattle.trace.specs.Clauses.{trace_bytes, Right, Single, Cuts, Traces};
 
 use fitting::CnotMin;
-use origin::ORIGIN_BYTES;
+use origin::{ORIGIN_BYTES, Source};
 use plan::Plan;
 use rules::{GATE_TERMS, GATE_WIDTH, MAX_COLUMNS, MAX_WIRES, TERM_WIDTH};
 use saying::{Program, Reason, Said};
@@ -63,11 +63,11 @@ fn piece_end(numbers: &[i32], at: usize, head: Head) -> usize
 fn last_line(numbers: &[i32]) -> u32
     ensures { result ≡ last_line (gates_of numbers.now) }
 {
-    let n = numbers.len() / GATE_WIDTH;
-    if n == 0 {
-        return 0;
+    let (rows, _) = numbers.as_chunks::<GATE_WIDTH>();
+    match rows.last() {
+        Some(row) => gate::nat(row[5]),
+        None => 0,
     }
-    gate::nat(numbers[GATE_WIDTH * (n - 1) + 5])
 }
 
 // The gates of one piece: as they were, or as they were written again.
@@ -79,19 +79,15 @@ fn write_piece(numbers: &[i32], head: Head, out: &mut [u8], at: usize) -> usize
     let mut new = [0i32; GATE_WIDTH * LIST_GATES];
     match fitting::minimize::<CnotMin>(numbers, head, &mut new) {
         Ok(c) => {
-            let again = 0 < c.replaced;
-            if !again {
-                return origin::write_origins(out, at, numbers, false, 0, 0);
+            if 0 < c.replaced {
+                let source = Source::Again {
+                    first: gate::line(numbers),
+                    last: last_line(numbers),
+                };
+                origin::write_origins(out, at, &new[..GATE_WIDTH * c.gatesout], source)
+            } else {
+                origin::write_origins(out, at, numbers, Source::Copied)
             }
-            let first = gate::line(numbers);
-            origin::write_origins(
-                out,
-                at,
-                &new[..GATE_WIDTH * c.gatesout],
-                true,
-                first,
-                last_line(numbers),
-            )
         }
         Err(_) => at,
     }
