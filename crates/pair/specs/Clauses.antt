@@ -1,5 +1,5 @@
 -- What the crate's functions ask and say.
-use Rattle.std.specs.Prelude.{◌≡◌, ◌↔◌, false, List, ◌++◌, ℕ, ◌^◌, ◌≤◌, ◌<◌, ℤ, length, take}
+use Rattle.std.specs.Prelude.{◌≡◌, ◌↔◌, false, List, ◌++◌, ℕ, ℤ, take}
 use Rattle.rules.specs.Numbers.{gates_of}
 use Rattle.rules.specs.Stretch.{AlikeGates}
 use Rattle.text.specs.Bytes.{bytes}
@@ -7,11 +7,6 @@ use Rattle.spelling.specs.Texts.{Head, list_text}
 use Rattle.saying.specs.Clauses.{Says}
 use Rattle.saying.specs.declared.Said.{Said}
 use Rattle.pair.specs.Answer.{answer}
-
--- a place of the text and a line, at which the second list begins
-pub record Begins (text : List ℕ) (at line : ℕ) : Type 0 where
-  pub within : at ≤ length text
-  pub early : line < 2 ^ 16
 
 -- the text is two lists over the same wires, one behind the other; and `same` is printed exactly where they act alike: every setting of the wires goes to the
 -- same setting, and phases differ by one constant modulo 8

@@ -1,7 +1,7 @@
 // The entry point text to text: two lists read, one behind the other, and compared.
 #![tactic(auto)]
 
-ghost use Rattle.std.specs.Prelude.{◌≤◌, length, drop};
+ghost use Rattle.std.specs.Prelude.{◌≤◌, ◌<◌, ◌^◌, length};
 ghost use Rattle.spelling.specs.Sizes.{list_gates, answer_bytes};
 ghost use Rattle.spelling.specs.Reading.{list_at};
 ghost use Rattle.saying.specs.Answer.{answered};
@@ -9,11 +9,11 @@ ghost use Rattle.saying.specs.Clauses.{Says};
 ghost use Rattle.acting.specs.Answer.{verdict_of};
 ghost use Rattle.alike.specs.Answering as Alike;
 ghost use Rattle.pair.specs.Answer as Paper;
-ghost use Rattle.pair.specs.Clauses.{Begins, Pairs};
+ghost use Rattle.pair.specs.Clauses.{Pairs};
 
 use acting::Verdict;
 use alike::Answer;
-use reading::Front;
+use reading::Wrong;
 use rules::GATE_WIDTH;
 use saying::Said;
 use spelling::{ANSWER_BYTES, LIST_BYTES, LIST_GATES};
@@ -75,31 +75,24 @@ fn compare(first: &[i32], second: &[i32], wires: u32, out: &mut [u8]) -> Said
     }
 }
 
-// The second list, from a place and a line on.
-fn with_second(
-    text: &[u8],
-    at: usize,
-    line: usize,
-    first: &[i32],
-    wires: u32,
-    out: &mut [u8],
-) -> Said
-    requires begins { Begins text.now at line }
+// The second list, from a line on.
+fn with_second(text: &[u8], line: usize, first: &[i32], wires: u32, out: &mut [u8]) -> Said
+    requires early { line < 2 ^ 16 }
     requires answer_bytes_in_bounds { answer_bytes ≤ length out.old }
-    ensures { Says (Paper.second_as wires first.now line (list_at list_gates line (drop at text.now))) out.old result out.new }
+    ensures { Says (Paper.second_as wires first.now line (list_at list_gates line text.now)) out.old result out.new }
 {
     let mut second = [0i32; GATE_WIDTH * LIST_GATES];
-    match reading::read_list(text, at, line, LIST_GATES, &mut second) {
-        Front::Wrong(k) => refuse(out, 2, 11, k as u32, 0),
-        Front::Large(k) => refuse(out, 2, 12, k as u32, 0),
-        Front::Whole(head, n, k, end) => {
-            if head.wires != wires {
+    match reading::read_list(text, line, LIST_GATES, &mut second) {
+        Err(Wrong::Line(k)) => refuse(out, 2, 11, k as u32, 0),
+        Err(Wrong::Many(k)) => refuse(out, 2, 12, k as u32, 0),
+        Ok(list) => {
+            if list.head.wires != wires {
                 return refuse(out, 2, 11, line as u32 + 1, 0);
             }
-            if end != text.len() {
-                return refuse(out, 0, 11, k as u32, 0);
+            if !list.rest.is_empty() {
+                return refuse(out, 0, 11, list.line as u32, 0);
             }
-            compare(first, &second[..GATE_WIDTH * n], wires, out)
+            compare(first, &second[..GATE_WIDTH * list.gates], wires, out)
         }
     }
 }
@@ -113,11 +106,12 @@ fn answer(text: &[u8], out: &mut [u8]) -> Said
         return refuse(out, 0, 10, 0, 0);
     }
     let mut first = [0i32; GATE_WIDTH * LIST_GATES];
-    match reading::read_list(text, 0, 1, LIST_GATES, &mut first) {
-        Front::Wrong(k) => refuse(out, 1, 11, k as u32, 0),
-        Front::Large(k) => refuse(out, 1, 12, k as u32, 0),
-        Front::Whole(head, n, k, end) => {
-            with_second(text, end, k, &first[..GATE_WIDTH * n], head.wires, out)
+    match reading::read_list(text, 1, LIST_GATES, &mut first) {
+        Err(Wrong::Line(k)) => refuse(out, 1, 11, k as u32, 0),
+        Err(Wrong::Many(k)) => refuse(out, 1, 12, k as u32, 0),
+        Ok(list) => {
+            let gates = &first[..GATE_WIDTH * list.gates];
+            with_second(list.rest, list.line, gates, list.head.wires, out)
         }
     }
 }
