@@ -83,6 +83,12 @@ read_at l j r h e =
     let f : r ≡ nat_of (get_or l j (pos 0)) = e ∙ ap nat_of (back l j h) in
     (f, rw f (nat_lt (get_or l j (pos 0)) h))
 
+-- a number that `nat` reads from a field
+pub read_small : (z : ℤ) (r : ℕ) → SFits w32 z → r ≡ nat_of (to_z w32 (of_z w32 z)) → (r ≡ nat_of z) × (r < 2 ^ 31)
+read_small z r h e =
+    let f : r ≡ nat_of z = e ∙ ap nat_of (to_z-of_z w32 z h) in
+    (f, rw f (nat_lt z h.sfits))
+
 -- a remainder by 2, or its negation, that isn't 0
 not-even : (m : ℕ) → m < 2 → (not (same (pos m) (pos 0)) ≡ eqb m 1) × (not (same (neg_ℤ (pos m)) (pos 0)) ≡ eqb m 1)
 not-even zero h = (refl, refl)
