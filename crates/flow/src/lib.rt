@@ -1,7 +1,7 @@
 // Numbers of 32 and 64 bits as bytes, read and written in a stream, all little-endian.
 #![tactic(auto)]
 
-ghost use Rattle.std.specs.Prelude.{◌≡◌, ◌⊎◌, ◌↔◌, IsTrue, ℕ, ◌+◌, ◌-◌, ◌*◌, ◌%◌, ◌≤◌, ◌<◌, length, take, slice_range, IfOk, OnErr};
+ghost use Rattle.std.specs.Prelude.{◌≡◌, ◌⊎◌, true, false, ℕ, ◌+◌, ◌-◌, ◌*◌, ◌%◌, ◌≤◌, ◌<◌, length, take, slice_range, IfOk, OnErr};
 ghost use Rattle.std.specs.Io.KnownBytes.{Appends, Consumes, IsAtEnd, Keeps};
 ghost use Rattle.flow.specs.Flowing as Flowing;
 ghost use Rattle.flow.specs.Streams as Streams;
@@ -117,7 +117,8 @@ impl<R: Read, const N: usize> Flow<R, N> {
         page: &mut Page<W, M>,
         n: usize,
     ) -> io::Result<bool>
-        ensures ok { IfOk result (λ there. IsTrue there ↔ (n ≤ self.new.end - self.new.at)) }
+        ensures enough { IfOk result (λ there. there ≡ true → n ≤ self.new.end - self.new.at) }
+        ensures short { IfOk result (λ there. there ≡ false → self.new.end - self.new.at < n) }
         ensures came { IfOk result (λ _. Keeps (coming (R.remaining self.old.reader) self.old.bytes self.old.at self.old.end) (coming (R.remaining self.new.reader) self.new.bytes self.new.at self.new.end)) }
         ensures went { IfOk result (λ _. Keeps (gone (W.contents page.old.writer) page.old.bytes page.old.used) (gone (W.contents page.new.writer) page.new.bytes page.new.used)) }
         ensures done { IfOk result (λ there. self.new.end - self.new.at < n → n ≤ N → IsAtEnd (R.remaining self.new.reader)) }
@@ -135,7 +136,8 @@ impl<R: Read, const N: usize> Flow<R, N> {
 
     // The bytes that wait.
     pub fn waiting(&self) -> &[u8]
-        ensures { result.now ≡ slice_range self.now.bytes self.now.at self.now.end }
+        ensures bytes { result.now ≡ slice_range self.now.bytes self.now.at self.now.end }
+        ensures count { length result.now ≡ self.now.end - self.now.at }
     {
         let bytes = &self.bytes[..];
         &bytes[self.at..self.end]
