@@ -188,7 +188,8 @@ pub fn put<T: Spelled, W: Write, const N: usize>(
     ensures { IfOk result (λ _. Appends (gone (W.contents page.old.writer) page.old.bytes page.old.used) (gone (W.contents page.new.writer) page.new.bytes page.new.used) (spelled_all T.bits numbers.now)) }
 {
     for number in numbers {
-        page.put(&number.bits().to_le_bytes())?;
+        let bytes = number.bits().to_le_bytes();
+        page.put(&bytes)?;
     }
     Ok(())
 }
