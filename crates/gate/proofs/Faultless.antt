@@ -9,7 +9,7 @@ use lib.Dec.{eqb, leb}
 use lib.IntN.{ℤ}
 use Rattle.rules.specs.Limits.{last_code}
 use Rattle.rules.specs.Gate.{from, second, bitted, third, code_x, code_rz, code_cnot, code_cz}
-use Rattle.rules.specs.Numbers.{nat_of, inside, same, negative}
+use Rattle.rules.specs.Numbers.{inside, same, negative}
 use Rattle.rules.specs.Refusal.{none, first_number, nought, unused, apart, gate_tests}
 use Rattle.rules.proofs.Bits.{split, and_left, and_right}
 use Rattle.std.specs.Prelude.{Option}

@@ -1,11 +1,10 @@
 -- The first of some tests that fails, and what it decides.
-use mathlib.Core.Path.{◌≡◌, refl, sym, ap, ◌∙◌}
-use mathlib.Core.Bool.{Bool, true, false}
+use mathlib.Core.Path.{◌≡◌, refl, sym}
+use mathlib.Core.Bool.{Bool, false}
 use mathlib.Core.List.{List, [], ◌∷◌}
 use Prim.Native.Nat.{ℕ}
 use native.Mathlib.Omega.{arith}
 use lib.Dec.{eqb}
-use Rattle.std.specs.Prelude.{Option, Some, None}
 use Rattle.rules.specs.Refusal as Paper
 use Rattle.rules.specs.Refusal.{Verdict, accepted, refused, tell, none, first_number, ruled}
 use Rattle.rules.proofs.Bits.{split}

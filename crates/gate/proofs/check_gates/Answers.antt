@@ -1,14 +1,8 @@
 -- `gate::check_gates` meets its contract.
-use mathlib.Core.Path.{sym, ap, ◌∙◌}
-use Prim.Native.Nat.{ℕ}
-use native.Mathlib.Nat.{sub-zero}
+use mathlib.Core.Path.{sym, ◌∙◌}
 use native.Mathlib.Omega.{arith}
-use Rattle.rules.specs.Refusal.{faults_from}
 use Rattle.gate.proofs.Steps.{stops, goes_on, ends}
 use Rattle.gate.proofs.check_gates.Goals as goal
-
-pub loop-i-init : goal.loop-i-init
-loop-i-init c = ap (λ (k : ℕ). faults_from c.args.list.now c.args.wires c.args.bits k 0) (sym (sub-zero c.args.n))
 
 pub returns-in-Some : goal.returns-in-Some
 returns-in-Some c =

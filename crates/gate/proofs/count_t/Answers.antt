@@ -6,7 +6,6 @@ use native.Mathlib.Omega.{arith}
 use lib.IntN.{pos}
 use lib.ListN.{length, get_or}
 use mir.Syntax.{w32}
-use mir.Val.{to_z, of_z}
 use mir.ValLaws.{to_z-of_z}
 use Rattle.rules.specs.Limits.{width}
 use Rattle.rules.specs.Numbers.{nat_of, field, gate_at, gates_from, gates_of}

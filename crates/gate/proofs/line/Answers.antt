@@ -1,10 +1,10 @@
 -- `gate::line` meets its contract.
-use mathlib.Core.Path.{◌≡◌, sym, ◌∙◌, ap}
+use mathlib.Core.Path.{sym, ◌∙◌, ap}
 use Prim.Native.Nat.{◌<◌, ◌≤◌}
 use native.Mathlib.Omega.{arith}
 use borrow.Author.Tests.{ltb-true, ltb-false}
 use lib.IntN.{pos}
-use lib.ListN.{length, get_or}
+use lib.ListN.{length}
 use Rattle.std.proofs.lemmas.List.{get_or_read}
 use Rattle.rules.specs.Numbers.{nat_of}
 use Rattle.gate.proofs.Tests.{read_small}

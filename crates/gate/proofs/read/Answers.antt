@@ -1,13 +1,12 @@
 -- `gate::read` meets its contract.
-use mathlib.Core.Path.{◌≡◌, sym, ap, ◌∙◌}
+use mathlib.Core.Path.{◌≡◌, ap, ◌∙◌}
 use mir.Syntax.{w32}
 use mir.ValLaws.{to_z-of_z}
 use Rattle.rules.specs.Meaning.{turn8}
-use Rattle.rules.specs.Numbers.{field, gate_at}
+use Rattle.rules.specs.Numbers.{gate_at}
 use Rattle.turn.proofs.Eighths.{turn8-lt}
 use Rattle.gate.specs.declared.Fields.{Fields}
 use Rattle.gate.specs.Fields.{fields_at}
-use Rattle.gate.specs.Reading.{Reads}
 use Rattle.gate.proofs.Tests.{read_small}
 use Rattle.gate.proofs.read.Goals as goal
 

@@ -1,9 +1,8 @@
 -- `gate::Fields::fault` meets its contract.
-use mathlib.Core.Path.{◌≡◌, sym, ap, ◌∙◌}
+use mathlib.Core.Path.{◌≡◌, sym, ◌∙◌}
 use mir.Syntax.{w32}
-use mir.Val.{SFits, to_z, of_z}
+use mir.Val.{to_z, of_z}
 use mir.ValLaws.{to_z-of_z}
-use Rattle.gate.specs.Tests.{told}
 use Rattle.gate.proofs.Faultless.{plain-faultless, fault-by}
 use Rattle.gate.proofs.Fields.fault.Goals as goal
 
