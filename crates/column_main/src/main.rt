@@ -4,127 +4,62 @@
 // A set is a number of 16 bits, bit v for the parity v. All 16 parities are taken, 0 too: no contract asks that a parity is another.
 #![tactic(auto)]
 
-ghost use Rattle.std.specs.Prelude.{◌≡◌, ◌<◌, ◌≤◌, max, length};
+ghost use Rattle.std.specs.Prelude.{◌≤◌, ◌<◌, IfSome};
 
 use parity::Parity;
 use std::io;
 
 // The parities that have a column, as a set.
-fn having(column: u64) -> u64 {
-    match column {
-        0 => 0xaaaa,
-        1 => 0xcccc,
-        2 => 0xf0f0,
-        _ => 0xff00,
-    }
-}
+const HAVING: [u64; 4] = [0xaaaa, 0xcccc, 0xf0f0, 0xff00];
 
 fn count(set: u64) -> u64
     ensures { result ≤ 64 }
 {
-    u64::count_ones(set) as u64
-}
-
-fn larger(a: u64, b: u64) -> u64
-    ensures { result ≡ max a b }
-{
-    if a < b { b } else { a }
+    u64::from(set.count_ones())
 }
 
 // The distance between twice the ones and the size.
-fn distance(set: u64, column: u64) -> u64
-    ensures { result ≤ 128 }
-{
-    let twice = 2 * count(set & having(column));
-    let size = count(set);
-    if twice < size {
-        size - twice
-    } else {
-        twice - size
-    }
+fn distance(set: u64, having: u64) -> u64 {
+    (2 * count(set & having)).abs_diff(count(set))
 }
 
 // The size of the larger side.
-fn side(set: u64, column: u64) -> u64
-    ensures { result ≤ 128 }
-{
-    larger(count(set & having(column)), count(set & !having(column)))
+fn side(set: u64, having: u64) -> u64 {
+    count(set & having).max(count(set & !having))
 }
 
-// A candidate by a number first and then by its column, so that on a tie the highest is the largest; 0 where it is none.
-fn rank(cands: u64, column: u64, number: u64) -> u64
-    requires { (column < 4) × (number ≤ 128) }
-{
-    if (cands >> column) % 2 == 1 {
-        4 * number + column
-    } else {
-        0
-    }
-}
-
-// The candidate with the largest of the numbers of the four columns, on a tie the highest; 0 where there is none.
-fn largest(cands: u64, n0: u64, n1: u64, n2: u64, n3: u64) -> u64
-    requires { (n0 ≤ 128) × (n1 ≤ 128) × (n2 ≤ 128) × (n3 ≤ 128) }
+// The candidate with the largest of the columns' numbers, on a tie the highest; 0 where there is none.
+fn largest(cands: u64, numbers: [u64; 4]) -> usize
     ensures { result < 4 }
 {
-    let low = larger(rank(cands, 0, n0), rank(cands, 1, n1));
-    let high = larger(rank(cands, 2, n2), rank(cands, 3, n3));
-    larger(low, high) % 4
-}
-
-fn by_distance(set: u64, cands: u64) -> u64
-    ensures { result < 4 }
-{
-    largest(
-        cands,
-        distance(set, 0),
-        distance(set, 1),
-        distance(set, 2),
-        distance(set, 3),
-    )
-}
-
-fn by_side(set: u64, cands: u64) -> u64
-    ensures { result < 4 }
-{
-    largest(
-        cands,
-        side(set, 0),
-        side(set, 1),
-        side(set, 2),
-        side(set, 3),
-    )
+    (0..4)
+        .filter(|column| (cands >> *column) % 2 == 1)
+        .max_by_key(|column| numbers[*column])
+        .unwrap_or(0)
 }
 
 // What the walk calls; it never asks it of an empty set.
-fn by_code(terms: &[u64], cands: Parity) -> u64 {
+fn by_code(terms: &[u64], cands: Parity) -> u32 {
     if terms.len() < 3 {
-        return column::best_counted(terms, cands) as u64;
+        return column::best_counted(terms, cands);
     }
-    column::best_column(terms, cands) as u64
+    column::best_column(terms, cands)
 }
 
-// The column that all four choose, or 4 where they are not the same.
-fn chosen(terms: &[u64], set: u64, cands: u64) -> usize
-    ensures { result < 5 }
+// The column that all four choose, if they do.
+fn chosen(terms: &[u64], set: u64, cands: u64) -> Option<usize>
+    ensures { IfSome result (λ column. column < 4) }
 {
     let parity = Parity { lo: cands, hi: 0 };
-    let column = by_distance(set, cands);
-    if column != by_side(set, cands) {
-        return 4;
-    }
-    if column != by_code(terms, parity) {
-        return 4;
-    }
-    if column != column::best_counted(terms, parity) as u64 {
-        return 4;
-    }
-    column as usize
+    let column = largest(cands, HAVING.map(|having| distance(set, having)));
+    let same = column == largest(cands, HAVING.map(|having| side(set, having)))
+        && column == by_code(terms, parity) as usize
+        && column == column::best_counted(terms, parity) as usize;
+    same.then_some(column)
 }
 
 // The parities of a set as terms of turn 0, three numbers each; how many there are.
-fn fill(terms: &mut [u64], set: u64) -> usize
-    requires { 48 ≤ length terms.old }
+fn fill(terms: &mut [u64; 48], set: u64) -> usize
     ensures { result ≤ 16 }
 {
     let mut n = 0;
@@ -135,42 +70,27 @@ fn fill(terms: &mut [u64], set: u64) -> usize
     n
 }
 
-// The choices of a set with all candidates, counted from a place on. No count can wrap, and so written none needs a proof that it doesn't.
-fn tally(terms: &[u64], set: u64, counts: &mut [u64; 85], from: usize)
-    requires { from ≤ 80 }
-{
+// The choices of a set with all candidates. No count can wrap, and so written none needs a proof that it doesn't.
+fn tally(terms: &[u64], set: u64, counts: &mut [u64; 5]) {
     for cands in 0..16 {
-        let at = from + chosen(terms, set, cands);
-        counts[at] = std::num::wrapping_add_u64(counts[at], 1);
+        let at = chosen(terms, set, cands).unwrap_or(4);
+        counts[at] = counts[at].wrapping_add(1);
     }
-}
-
-fn cell(rt: &impl Print, n: u64) -> io::Result<()> {
-    print!(rt; " {n}")
-}
-
-fn line(rt: &impl Print, size: usize, counts: &[u64; 85]) -> io::Result<()>
-    requires { size ≤ 16 }
-{
-    print!(rt; "{size}")?;
-    cell(rt, counts[5 * size])?;
-    cell(rt, counts[5 * size + 1])?;
-    cell(rt, counts[5 * size + 2])?;
-    cell(rt, counts[5 * size + 3])?;
-    cell(rt, counts[5 * size + 4])?;
-    println!(rt;)
 }
 
 fn main(rt: HostRuntime) -> io::Result<()> {
     let mut terms = [0u64; 48];
-    let mut counts = [0u64; 85];
+    let mut counts = [[0u64; 5]; 17];
     for set in 0..65536 {
         let size = fill(&mut terms, set);
-        let end = 3 * size;
-        tally(&terms[..end], set, &mut counts, 5 * size);
+        tally(&terms[..3 * size], set, &mut counts[size]);
     }
-    for size in 0..17 {
-        line(&rt, size, &counts)?;
+    for (size, line) in counts.iter().enumerate() {
+        print!(rt; "{size}")?;
+        for n in line {
+            print!(rt; " {n}")?;
+        }
+        println!(rt;)?;
     }
     Ok(())
 }

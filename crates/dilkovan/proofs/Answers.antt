@@ -13,8 +13,9 @@ use Rattle.rules.specs.Scan.{Result}
 use Rattle.rules.specs.Pass as Paper
 use Rattle.rules.proofs.Accepting.{place_of, verdict-few}
 use Rattle.cnot_min.specs.Minimizing.{Minimizes}
-use Rattle.cnot_min.specs.declared.Answer.{Answer}
-use Rattle.cnot_min.specs.declared.Answer.TheVariants.{Refused, Done}
+use Rattle.std.specs.Prelude.{Result, Ok, Err}
+use Rattle.gate.specs.declared.Refusal as Code
+use Rattle.cnot_min.specs.declared.Counts.{Counts}
 use Rattle.dilkovan.specs.Doors.{coded, Placed}
 
 unfoldable pub place_in : Paper.Answer → ℕ
@@ -30,11 +31,11 @@ after-place : (l : List ℤ) (w b q t : ℕ) (out : List ℤ) (terms steps : Lis
 unfolding Paper.after
 after-place l w b q t out terms steps = omega (arith, place_is (verdict l w b (length out) (length terms) (length steps)) (gates_of l) (Paper.pass q t (gates_of l)) out terms steps, verdict-few l w b (length out) (length terms) (length steps))
 
-pub placed : (l : List ℤ) (w b q t : ℕ) (out : List ℤ) (terms steps : List ℕ) (a : Answer) (out' : List ℤ) (terms' steps' : List ℕ)
+pub placed : (l : List ℤ) (w b q t : ℕ) (out : List ℤ) (terms steps : List ℕ) (a : Result Counts Code.Refusal) (out' : List ℤ) (terms' steps' : List ℕ)
     → Minimizes l w b q t out terms steps a out' terms' steps' → Placed a
 unfolding Placed place_in
-placed l w b q t out terms steps (Refused r) out' terms' steps' m = omega (arith, ap place_in m.answer, after-place l w b q t out terms steps)
-placed l w b q t out terms steps (Done c) out' terms' steps' m = tt
+placed l w b q t out terms steps (Err r) out' terms' steps' m = omega (arith, ap place_in m.answer, after-place l w b q t out terms steps)
+placed l w b q t out terms steps (Ok c) out' terms' steps' m = tt
 
 -- what a caller reads back from the one number
 pub decoded : (r : Refusal) → r.number < 2 ^ 16 → r.place < 2 ^ 32

@@ -6,15 +6,16 @@ use native.Mathlib.Omega.{arith}
 use lib.IntN.{ℤ}
 use Rattle.rules.specs.Refusal.{Refusal}
 use Rattle.alike.specs.Answering.{refusal, Answers}
-use Rattle.alike.specs.declared.Answer.{Answer}
-use Rattle.alike.specs.declared.Answer.TheVariants.{Refused, Told}
+use Rattle.std.specs.Prelude.{Result, Ok, Err}
+use Rattle.acting.specs.declared.Verdict.{Verdict}
+use Rattle.alike.specs.declared.Blame.{Blame}
 use Rattle.alike.proofs.Placing.{blame-place}
 use Rattle.dilkovan.specs.Pairs.{coded_pair, Blamed}
 
-pub blamed-fits : (first second : List ℤ) (w : ℕ) (a : Answer) → Answers first second w a → Blamed a
+pub blamed-fits : (first second : List ℤ) (w : ℕ) (a : Result Verdict Blame) → Answers first second w a → Blamed a
 unfolding Blamed
-blamed-fits first second w (Refused b) h = omega (arith, blame-place first second w b h.answered)
-blamed-fits first second w (Told v) h = tt
+blamed-fits first second w (Err b) h = omega (arith, blame-place first second w b h.answered)
+blamed-fits first second w (Ok v) h = tt
 
 -- what a caller reads back; a refusal's list isn't 0, so that no refusal is one of 0 to 3
 pub decoded-pair : (which : ℕ) (r : Refusal) → r.field < 2 ^ 8 → r.number < 2 ^ 16 → r.place < 2 ^ 32

@@ -1,3 +1,4 @@
 pub mod Answers
 pub mod Blaming
+mod Handing
 pub mod Placing

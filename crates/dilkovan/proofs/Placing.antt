@@ -8,8 +8,9 @@ use lib.ListN.{length}
 use Rattle.rules.specs.Limits.{max_gates, clamp_qubits}
 use Rattle.rules.specs.Refusal.{Verdict, accepted, refused}
 use Rattle.rules.proofs.Accepting.{place_of, verdict-few}
-use Rattle.cnot_min.specs.declared.Answer.{Answer}
-use Rattle.cnot_min.specs.declared.Answer.TheVariants.{Refused, Done}
+use Rattle.std.specs.Prelude.{Result, Ok, Err}
+use Rattle.gate.specs.declared.Refusal.{Refusal}
+use Rattle.cnot_min.specs.declared.Counts.{Counts}
 use Rattle.plain_check.specs.Refusing.{plain_verdict}
 use Rattle.plain_check.proofs.Taking.{plain-place}
 use Rattle.plain.specs.Plainly.{plain_as, plain_after, Plainly}
@@ -32,7 +33,7 @@ module _ (l : List ℤ) (w b q t : ℕ) (out : List ℤ) (terms steps : List ℕ
         verdict-few l w b (length out) (length terms) (length steps),
       )
 
-  pub placed : (a : Answer) (out' : List ℤ) (terms' steps' : List ℕ) (whole' : List ℤ) → Plainly l w b q t out terms steps whole a out' terms' steps' whole' → Placed a
+  pub placed : (a : Result Counts Refusal) (out' : List ℤ) (terms' steps' : List ℕ) (whole' : List ℤ) → Plainly l w b q t out terms steps whole a out' terms' steps' whole' → Placed a
   unfolding Placed place_in
-  placed (Refused r) out' terms' steps' whole' m = omega (arith, ap place_in m.answer, after-place)
-  placed (Done c) out' terms' steps' whole' m = tt
+  placed (Err r) out' terms' steps' whole' m = omega (arith, ap place_in m.answer, after-place)
+  placed (Ok c) out' terms' steps' whole' m = tt

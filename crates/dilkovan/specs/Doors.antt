@@ -1,9 +1,9 @@
 -- Answers as a caller in another language gets them: one number, and the counts in a room of eight; of a text, one number and the length.
-use Rattle.std.specs.Prelude.{◌≡◌, cond, List, [], ◌∷◌, ℕ, ◌+◌, ◌*◌, ◌^◌, ◌<◌, ℤ}
+use Rattle.std.specs.Prelude.{◌≡◌, cond, Result, Ok, Err, List, [], ◌∷◌, ℕ, ◌+◌, ◌*◌, ◌^◌, ◌<◌, ℤ}
 use Rattle.rules.specs.Pass as Paper
 use Rattle.cnot_min.specs.Minimizing.{told, Minimizes}
-use Rattle.cnot_min.specs.declared.Answer.{Answer}
-use Rattle.cnot_min.specs.declared.Answer.TheVariants.{Refused, Done}
+use Rattle.cnot_min.specs.declared.Counts.{Counts}
+use Rattle.gate.specs.declared.Refusal.{Refusal}
 use Rattle.saying.specs.Answer as Text
 use Rattle.saying.specs.declared.Said.{Said}
 
@@ -23,15 +23,15 @@ stored (Paper.done c) room = listed c
 
 -- the answer is one that `cnot_min_with` gives: its number, its counts, and the three rooms as it leaves them
 pub record Exports (l : List ℤ) (wires bits qcap tcap : ℕ) (out : List ℤ) (terms steps counts : List ℕ) (r : ℕ) (out' : List ℤ) (terms' steps' counts' : List ℕ) : Type 0 where
-  pub answer : Answer
+  pub answer : Result Counts Refusal
   pub minimizes : Minimizes l wires bits qcap tcap out terms steps answer out' terms' steps'
   pub number : r ≡ coded (told answer)
   pub counts-are : counts' ≡ stored (told answer) counts
 
 -- the place fits 32 bits
-unfoldable pub Placed : Answer → Type 0
-Placed (Refused r) = r.place < 2 ^ 32
-Placed (Done c) = Unit {0}
+unfoldable pub Placed : Result Counts Refusal → Type 0
+Placed (Err r) = r.place < 2 ^ 32
+Placed (Ok c) = Unit {0}
 
 -- what is said of a text, the room before, how much was printed, and the room after
 abbrev pub Promises : Type 1

@@ -1,7 +1,9 @@
 // The static library: the entry points under names that a program in another language can call. A slice is a pointer and a count.
 #![tactic(auto)]
 
-ghost use Rattle.std.specs.Prelude.{cond, ◌≡◌};
+ghost use Rattle.std.specs.Prelude.{cond, ◌≡◌, ◌^◌, ◌<◌};
+ghost use Rattle.rules.specs.Pass as Paper;
+ghost use Rattle.gate.specs.Verdicts.{refusal_of};
 ghost use Rattle.cnot_min.specs.Minimizing.{told, counted};
 ghost use Rattle.alike.specs.Answering as Alike;
 ghost use Rattle.list.specs.Answer as List;
@@ -18,25 +20,27 @@ ghost use Rattle.pair.specs.Answer as Pair;
 ghost use Rattle.pair.specs.Clauses as Paired;
 ghost use Rattle.plain_list.specs.Answer as PlainList;
 ghost use Rattle.plain_list.specs.Clauses.{Plains};
-ghost use Rattle.dilkovan.specs.Doors.{coded, listed, Exports, ExportsText, Placed};
+ghost use Rattle.dilkovan.specs.Doors.{coded, listed, stored, Exports, ExportsText, Placed};
 ghost use Rattle.dilkovan.specs.Pairs.{coded_pair, Blamed, ExportsAlike};
 ghost use Rattle.dilkovan.specs.Plain.{ExportsPlain};
 
-use cnot_min::{Answer, Counts};
+use acting::Verdict;
+use alike::Blame;
+use cnot_min::Counts;
+use gate::Refusal;
+use saying::Said;
 use spelling::ANSWER_BYTES;
 use trace::TRACE_BYTES;
 
-// 0 where it is done; else the refusal's field * 2^48 + its number * 2^32 + its place.
-fn code(a: Answer) -> u64
-    requires { Placed a }
-    ensures { result ≡ coded (told a) }
+// The refusal's field * 2^48 + its number * 2^32 + its place.
+fn code(r: Refusal) -> u64
+    requires { r.place < 2 ^ 32 }
+    ensures code { result ≡ coded (Paper.refusal (refusal_of r)) }
+    ensures short { result < 2 ^ 56 }
 {
-    match a {
-        Answer::Refused(r) => {
-            r.field as u64 * 281474976710656 + r.number as u64 * 4294967296 + r.place as u64
-        }
-        Answer::Done(_) => 0,
-    }
+    let field = u64::from(r.fault.field());
+    let number = u64::from(r.fault.number());
+    field * 281474976710656 + number * 4294967296 + r.place as u64
 }
 
 // The counts, in document 01's order.
@@ -55,6 +59,21 @@ fn store(c: Counts, room: &mut [u64; 8])
     ];
 }
 
+// 0 where it is done, and the counts are written; else the refusal's code.
+fn hand_counts(answer: Result<Counts, Refusal>, counts: &mut [u64; 8]) -> u64
+    requires { Placed answer }
+    ensures code { result ≡ coded (told answer) }
+    ensures kept { counts.new ≡ stored (told answer) counts.old }
+{
+    match answer {
+        Ok(c) => {
+            store(c, counts);
+            0
+        }
+        Err(r) => code(r),
+    }
+}
+
 // `cnot_min::cnot_min_with`. The counts are written only when it is done.
 #[unsafe(no_mangle)]
 pub extern "C" fn dilkovan_cnot_min(
@@ -71,11 +90,7 @@ pub extern "C" fn dilkovan_cnot_min(
     ensures { Exports list.now wires bits qubit_cap term_cap out.old terms.old steps.old counts.old result out.new terms.new steps.new counts.new }
 {
     let a = cnot_min::cnot_min_with(list, wires, bits, qubit_cap, term_cap, out, terms, steps);
-    let Answer::Done(c) = a else {
-        return code(a);
-    };
-    store(c, counts);
-    0
+    hand_counts(a, counts)
 }
 
 // `plain::cnot_min_plain`, in the same way, with one room more.
@@ -97,27 +112,20 @@ pub extern "C" fn dilkovan_plain(
     let a = plain::cnot_min_plain(
         list, wires, bits, qubit_cap, term_cap, out, terms, steps, whole,
     );
-    let Answer::Done(c) = a else {
-        return code(a);
-    };
-    store(c, counts);
-    0
+    hand_counts(a, counts)
 }
 
 // 0 same, 1 linear map, 2 flips, 3 phase; else the refusal's list * 2^56 + its field * 2^48 + its number * 2^32 + its place.
-fn blamed(a: alike::Answer) -> u64
-    requires { Blamed a }
-    ensures { result ≡ coded_pair (Alike.told a) }
+fn blamed(answer: Result<Verdict, Blame>) -> u64
+    requires { Blamed answer }
+    ensures { result ≡ coded_pair (Alike.told answer) }
 {
-    match a {
-        alike::Answer::Refused(b) => {
-            let list = b.list;
-            let r = b.refusal;
-            (list as u64 * 256 + r.field as u64) * 281474976710656
-                + r.number as u64 * 4294967296
-                + r.place as u64
+    match answer {
+        Ok(v) => u64::from(v),
+        Err(b) => {
+            let list = u64::from(b.list.number());
+            list * 72057594037927936 + code(b.refusal)
         }
-        alike::Answer::Told(v) => u64::from(v),
     }
 }
 
@@ -129,11 +137,13 @@ pub extern "C" fn dilkovan_alike(first: &[i32], second: &[i32], wires: usize) ->
     blamed(alike::alike(first, second, wires))
 }
 
-// 1 where it is so.
-fn flag(b: bool) -> u64
-    ensures { result ≡ cond b 1 0 }
+// What is said of a text: how many bytes were printed, and 1 for a refusal.
+fn hand(said: Said, length: &mut usize) -> u64
+    ensures told { result ≡ cond said.refused 1 0 }
+    ensures size { length.new ≡ said.length }
 {
-    if b { 1 } else { 0 }
+    *length = said.length;
+    u64::from(said.refused)
 }
 
 // `list::list`: 0 an answer, 1 a refusal. Its bytes begin `out`, and `length` says how many they are.
@@ -145,9 +155,7 @@ pub extern "C" fn dilkovan_list(
 ) -> u64
     ensures { ExportsText List.answer Lists text.now out.old result out.new length.new }
 {
-    let a = list::list(text, out);
-    *length = a.length;
-    flag(a.refused)
+    hand(list::list(text, out), length)
 }
 
 // `import::import`, in the same way.
@@ -159,9 +167,7 @@ pub extern "C" fn dilkovan_import(
 ) -> u64
     ensures { ExportsText Import.answer Imports text.now out.old result out.new length.new }
 {
-    let i = import::import(text, out);
-    *length = i.length;
-    flag(i.refused)
+    hand(import::import(text, out), length)
 }
 
 // `export::export`.
@@ -173,9 +179,7 @@ pub extern "C" fn dilkovan_export(
 ) -> u64
     ensures { ExportsText Export.answer Exported.Exports text.now out.old result out.new length.new }
 {
-    let e = export::export(text, out);
-    *length = e.length;
-    flag(e.refused)
+    hand(export::export(text, out), length)
 }
 
 // `shorten::shorten`.
@@ -187,9 +191,7 @@ pub extern "C" fn dilkovan_qasm(
 ) -> u64
     ensures { ExportsText Shorten.answer Shortens text.now out.old result out.new length.new }
 {
-    let s = shorten::shorten(text, out);
-    *length = s.length;
-    flag(s.refused)
+    hand(shorten::shorten(text, out), length)
 }
 
 // `trace::trace`.
@@ -201,9 +203,7 @@ pub extern "C" fn dilkovan_trace(
 ) -> u64
     ensures { ExportsText Trace.answer Traces text.now out.old result out.new length.new }
 {
-    let t = trace::trace(text, out);
-    *length = t.length;
-    flag(t.refused)
+    hand(trace::trace(text, out), length)
 }
 
 // `pair::pair`.
@@ -215,9 +215,7 @@ pub extern "C" fn dilkovan_pair(
 ) -> u64
     ensures { ExportsText Pair.answer Paired.Pairs text.now out.old result out.new length.new }
 {
-    let p = pair::pair(text, out);
-    *length = p.length;
-    flag(p.refused)
+    hand(pair::pair(text, out), length)
 }
 
 // `plain_list::plain_list`.
@@ -229,7 +227,5 @@ pub extern "C" fn dilkovan_plain_list(
 ) -> u64
     ensures { ExportsText PlainList.answer Plains text.now out.old result out.new length.new }
 {
-    let q = plain_list::plain_list(text, out);
-    *length = q.length;
-    flag(q.refused)
+    hand(plain_list::plain_list(text, out), length)
 }

@@ -1,15 +1,14 @@
-// Export: reads our list from standard input and prints a laboratory's text. A refusal is seen by what is printed, not by an exit status.
+// Export: reads our list from standard input and prints a laboratory's text.
 #![tactic(auto)]
 
-use spelling::{ANSWER_BYTES, LIST_BYTES};
+use spelling::ANSWER_BYTES;
 use std::io;
 
-// One byte more than a text may have, so that a longer one shows; the rest of it is not read.
 fn main(rt: HostRuntime) -> io::Result<()> {
-    let mut text = [0u8; LIST_BYTES + 1];
-    let n = streams::read_full(&mut rt.stdin(), &mut text)?;
-    let mut out = [0u8; ANSWER_BYTES];
-    let r = export::export(&text[..n], &mut out);
-    let length = r.length;
-    rt.write_all(&out[..length])
+    serving::serve(
+        &mut rt.stdin(),
+        &mut rt.stdout(),
+        [0u8; ANSWER_BYTES],
+        export::export,
+    )
 }

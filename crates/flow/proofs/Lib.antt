@@ -1,3 +1,3 @@
 mod Coming
-mod Shifted
-mod Spelled
+mod Spelling
+mod Words

@@ -1,43 +1,25 @@
 // Numbers of 32 and 64 bits as bytes, read and written in a stream, all little-endian.
 #![tactic(auto)]
 
-ghost use Rattle.std.specs.Prelude.{◌≡◌, ◌⊎◌, ◌+◌, ◌-◌, ◌*◌, ◌≤◌, ◌<◌, min, length, take, slice_range, IfOk, OnErr};
+ghost use Rattle.std.specs.Prelude.{◌≡◌, ◌⊎◌, true, false, ℕ, ◌+◌, ◌-◌, ◌*◌, ◌%◌, ◌≤◌, ◌<◌, length, take, slice_range, IfOk, OnErr};
 ghost use Rattle.std.specs.Io.KnownBytes.{Appends, Consumes, IsAtEnd, Keeps};
 ghost use Rattle.flow.specs.Flowing as Flowing;
-ghost use Rattle.flow.specs.Flowing.{Held};
 ghost use Rattle.flow.specs.Streams as Streams;
-ghost use Rattle.flow.specs.Streams.{coming, gone, spelled, counts_spelled, numbers_spelled};
+ghost use Rattle.flow.specs.Streams.{coming, gone, spelled_all};
 
 use std::io;
 use std::io::{Read, Write};
-
-// The bytes of the input from `at` to `end` wait to be used, the first `used` bytes of the output to be written. A proved loop has to end: `left`
-// counts its rounds down from a number that no run uses up, and is 0 once the input has ended. After an error of a stream there is no flow to go on
-// with: what waited to be written may be written in part, and what was read is lost.
-#[derive(Clone, Copy)]
-pub struct Flow {
-    pub at: usize,
-    pub end: usize,
-    pub used: usize,
-    pub left: u64,
-}
+use streams::Page;
 
 // ---- numbers and bytes
-
-// The number of four bytes, the lowest first.
-fn joined(a: u8, b: u8, c: u8, d: u8) -> u32
-    ensures { result ≡ Flowing.joined a b c d }
-{
-    a as u32 + 256 * b as u32 + 65536 * c as u32 + 16777216 * d as u32
-}
 
 // Number i of the bytes, 32 bits each.
 fn word(bytes: &[u8], i: usize) -> u32
     requires { 4 * i + 4 ≤ length bytes.now }
     ensures { result ≡ Flowing.word_at bytes.now i }
 {
-    let at = 4 * i;
-    joined(bytes[at], bytes[at + 1], bytes[at + 2], bytes[at + 3])
+    let (words, _) = bytes.as_chunks();
+    u32::from_le_bytes(words[i])
 }
 
 // Number i of the bytes, 64 bits each.
@@ -45,25 +27,8 @@ pub fn long(bytes: &[u8], i: usize) -> usize
     requires { 8 * i + 8 ≤ length bytes.now }
     ensures { result ≡ Flowing.long_at bytes.now i }
 {
-    let low = word(bytes, 2 * i) as usize;
-    low + 4294967296 * word(bytes, 2 * i + 1) as usize
-}
-
-// The signed number with the same bits, and back.
-fn signed(x: u32) -> i32
-    ensures { result ≡ Flowing.signed x }
-{
-    if x < 2147483648 {
-        x as i32
-    } else {
-        !((4294967295 - x) as i32)
-    }
-}
-
-fn unsigned(v: i32) -> u32
-    ensures { result ≡ Streams.unsigned v }
-{
-    if v < 0 { !gate::nat(!v) } else { gate::nat(v) }
+    let (longs, _) = bytes.as_chunks();
+    usize::from_le_bytes(longs[i])
 }
 
 // The list's numbers.
@@ -71,28 +36,12 @@ pub fn load(bytes: &[u8], list: &mut [i32])
     requires { 4 * length list.old ≤ length bytes.now }
     ensures { Flowing.Loaded bytes.now list.new }
 {
-    for i in 0..list.len() {
-        list[i] = signed(word(bytes, i));
+    for (i, number) in list.iter_mut().enumerate() {
+        *number = word(bytes, i).cast_signed();
     }
-}
-
-pub fn least(a: usize, b: usize) -> usize
-    ensures { result ≡ min a b }
-{
-    if a < b { a } else { b }
 }
 
 // ---- the input, read as it comes
-
-// The waiting bytes, moved to the front.
-fn shift(input: &mut [u8], at: usize, end: usize)
-    requires { (at ≤ end) × (end ≤ length input.old) }
-    ensures { take (end - at) input.new ≡ slice_range input.old at end }
-{
-    for i in at..end {
-        input[i - at] = input[i];
-    }
-}
 
 // One read behind the bytes that are there: where they end then.
 fn read_on<R: Read>(reader: &mut R, input: &mut [u8], end: usize) -> io::Result<usize>
@@ -127,102 +76,120 @@ fn read_up<R: Read>(reader: &mut R, input: &mut [u8], from: usize, n: usize) -> 
     Ok(end)
 }
 
-// The flow with n bytes that wait, if so many still come. What was answered is written before the program waits: after an error nothing was read, or
-// all of it is written.
-pub fn fill<R: Read, W: Write>(
-    reader: &mut R,
-    writer: &mut W,
-    input: &mut [u8],
-    output: &[u8],
-    f: Flow,
-    n: usize,
-) -> io::Result<Flow>
-    requires { Held f (length input.old) (length output.now) }
-    ensures ok { IfOk result (λ g. Held g (length input.old) (length output.now) × (g.left ≡ f.left)) }
-    ensures came { IfOk result (λ g. Keeps (coming (R.remaining reader.old) input.old f.at f.end) (coming (R.remaining reader.new) input.new g.at g.end)) }
-    ensures went { IfOk result (λ g. Keeps (gone (W.contents writer.old) output.now f.used) (gone (W.contents writer.new) output.now g.used)) }
-    ensures done { IfOk result (λ g. g.end - g.at < n → n ≤ length input.old → IsAtEnd (R.remaining reader.new)) }
-    ensures err { OnErr result (Keeps (R.remaining reader.old) (R.remaining reader.new)
-        ⊎ Appends (W.contents writer.old) (W.contents writer.new) (take f.used output.now)) }
-{
-    let at = f.at;
-    let end = f.end;
-    let used = f.used;
-    if n <= end - at {
-        return Ok(f);
+// A reader, and the bytes that wait to be used: those of the room from `at` to `end`. After an error of a stream there is nothing to go on with: what
+// was read is lost.
+#[derive(Drop)]
+pub struct Flow<R, const N: usize> {
+    pub reader: R,
+    pub bytes: [u8; N],
+    pub at: usize,
+    pub end: usize,
+    ghost waits: { at ≤ end },
+    ghost ends: { end ≤ N },
+}
+
+impl<R: Read, const N: usize> Flow<R, N> {
+    // Nothing waits.
+    pub fn new(reader: R) -> Self
+        ensures { Keeps (R.remaining reader) (coming (R.remaining result.reader) result.bytes result.at result.end) }
+    {
+        Flow {
+            reader,
+            bytes: [0; N],
+            at: 0,
+            end: 0,
+        }
     }
-    writer.write_all(&output[..used])?;
-    shift(&mut *input, at, end);
-    Ok(Flow {
-        at: 0,
-        end: read_up(reader, input, end - at, n)?,
-        used: 0,
-        left: f.left,
-    })
+
+    // The waiting bytes, moved to the front.
+    fn shift(&mut self)
+        ensures { (self.new.reader ≡ self.old.reader) × (self.new.at ≡ 0) × (self.new.end ≡ self.old.end - self.old.at) × (take self.new.end self.new.bytes ≡ slice_range self.old.bytes self.old.at self.old.end) }
+    {
+        self.bytes.copy_within(self.at..self.end, 0);
+        self.end -= self.at;
+        self.at = 0;
+    }
+
+    // Whether n bytes wait, once so many have come or the input has ended. What was answered is written before the program waits: after an error nothing
+    // was read, or all of it is written.
+    pub fn fill<W: Write, const M: usize>(
+        &mut self,
+        page: &mut Page<W, M>,
+        n: usize,
+    ) -> io::Result<bool>
+        ensures enough { IfOk result (λ there. there ≡ true → n ≤ self.new.end - self.new.at) }
+        ensures short { IfOk result (λ there. there ≡ false → self.new.end - self.new.at < n) }
+        ensures came { IfOk result (λ _. Keeps (coming (R.remaining self.old.reader) self.old.bytes self.old.at self.old.end) (coming (R.remaining self.new.reader) self.new.bytes self.new.at self.new.end)) }
+        ensures went { IfOk result (λ _. Keeps (gone (W.contents page.old.writer) page.old.bytes page.old.used) (gone (W.contents page.new.writer) page.new.bytes page.new.used)) }
+        ensures done { IfOk result (λ there. self.new.end - self.new.at < n → n ≤ N → IsAtEnd (R.remaining self.new.reader)) }
+        ensures err { OnErr result (Keeps (R.remaining self.old.reader) (R.remaining self.new.reader)
+            ⊎ Appends (W.contents page.old.writer) (W.contents page.new.writer) (take page.old.used page.old.bytes)) }
+    {
+        if n <= self.end - self.at {
+            return Ok(true);
+        }
+        page.flush()?;
+        self.shift();
+        self.end = read_up(&mut self.reader, &mut self.bytes, self.end, n)?;
+        Ok(n <= self.end)
+    }
+
+    // The bytes that wait.
+    pub fn waiting(&self) -> &[u8]
+        ensures bytes { result.now ≡ slice_range self.now.bytes self.now.at self.now.end }
+        ensures count { length result.now ≡ self.now.end - self.now.at }
+    {
+        let bytes = &self.bytes[..];
+        &bytes[self.at..self.end]
+    }
+
+    // The first n of them are used.
+    pub fn pass(&mut self, n: usize)
+        requires { n ≤ self.old.end - self.old.at }
+        ensures { (self.new.reader ≡ self.old.reader) × (self.new.bytes ≡ self.old.bytes) × (self.new.at ≡ self.old.at + n) × (self.new.end ≡ self.old.end) }
+    {
+        self.at += n;
+    }
 }
 
 // ---- the output
 
-// The number behind the bytes that wait, which are written first where there is no room: how many wait then.
-fn put<W: Write>(writer: &mut W, output: &mut [u8], used: usize, x: u32) -> io::Result<usize>
-    requires { (used ≤ length output.old) × (4 ≤ length output.old) }
-    ensures ok { IfOk result (λ end. end ≤ length output.old) }
-    ensures went { IfOk result (λ end. Appends (gone (W.contents writer.old) output.old used) (gone (W.contents writer.new) output.new end) (spelled x)) }
-    ensures err { OnErr result (output.new ≡ output.old) }
-{
-    let at = room(writer, &*output, used)?;
-    output[at] = (x % 256) as u8;
-    output[at + 1] = (x / 256 % 256) as u8;
-    output[at + 2] = (x / 65536 % 256) as u8;
-    output[at + 3] = (x / 16777216) as u8;
-    Ok(at + 4)
+// A number that is written in 32 bits.
+pub trait Spelled: Copy {
+    ghost bits: { Self → ℕ };
+
+    fn bits(self) -> u32
+        ensures { result ≡ bits self };
 }
 
-fn room<W: Write>(writer: &mut W, output: &[u8], used: usize) -> io::Result<usize>
-    requires { (used ≤ length output.now) × (4 ≤ length output.now) }
-    ensures ok { IfOk result (λ at. at + 4 ≤ length output.now) }
-    ensures went { IfOk result (λ at. Keeps (gone (W.contents writer.old) output.now used) (gone (W.contents writer.new) output.now at)) }
-{
-    if 4 <= output.len() - used {
-        return Ok(used);
+// The lowest 32.
+impl Spelled for usize {
+    ghost bits = { λ x. x % 4294967296 };
+
+    fn bits(self) -> u32 {
+        (self % 4294967296) as u32
     }
-    writer.write_all(&output[..used])?;
-    Ok(0)
 }
 
-// Each number, its lowest 32 bits.
-pub fn put_counts<W: Write>(
-    writer: &mut W,
-    output: &mut [u8],
-    used: usize,
-    counts: &[usize],
-) -> io::Result<usize>
-    requires { (used ≤ length output.old) × (4 ≤ length output.old) }
-    ensures ok { IfOk result (λ end. end ≤ length output.old) }
-    ensures went { IfOk result (λ end. Appends (gone (W.contents writer.old) output.old used) (gone (W.contents writer.new) output.new end) (counts_spelled counts.now)) }
-    ensures err { OnErr result (length output.new ≡ length output.old) }
-{
-    let mut at = used;
-    for i in 0..counts.len() {
-        at = put(writer, &mut *output, at, (counts[i] % 4294967296) as u32)?;
+impl Spelled for i32 {
+    ghost bits = { Streams.unsigned };
+
+    fn bits(self) -> u32 {
+        self.cast_unsigned()
     }
-    Ok(at)
 }
 
-pub fn put_numbers<W: Write>(
-    writer: &mut W,
-    output: &mut [u8],
-    used: usize,
-    list: &[i32],
-) -> io::Result<usize>
-    requires { (used ≤ length output.old) × (4 ≤ length output.old) }
-    ensures ok { IfOk result (λ end. end ≤ length output.old) }
-    ensures went { IfOk result (λ end. Appends (gone (W.contents writer.old) output.old used) (gone (W.contents writer.new) output.new end) (numbers_spelled list.now)) }
-    ensures err { OnErr result (length output.new ≡ length output.old) }
+// Each number, behind the bytes that wait.
+pub fn put<T: Spelled, W: Write, const N: usize>(
+    page: &mut Page<W, N>,
+    numbers: &[T],
+) -> io::Result<()>
+    requires { 4 ≤ N }
+    ensures { IfOk result (λ _. Appends (gone (W.contents page.old.writer) page.old.bytes page.old.used) (gone (W.contents page.new.writer) page.new.bytes page.new.used) (spelled_all T.bits numbers.now)) }
 {
-    let mut at = used;
-    for i in 0..list.len() {
-        at = put(writer, &mut *output, at, unsigned(list[i]))?;
+    for number in numbers {
+        let bytes = number.bits().to_le_bytes();
+        page.put(&bytes)?;
     }
-    Ok(at)
+    Ok(())
 }

@@ -1,12 +1,13 @@
-// A stream read into a buffer.
+// A stream read into a buffer, and one written from a room.
 #![tactic(auto)]
 
-ghost use Rattle.std.specs.Prelude.{ℕ, ◌<◌, ◌≤◌, length, take, IfOk, OnErr};
+ghost use Rattle.std.specs.Prelude.{◌≡◌, ℕ, ◌+◌, ◌<◌, ◌≤◌, length, take, IfOk, OnErr};
 ghost use Rattle.std.specs.Io.{ReadsAtMost};
-ghost use Rattle.std.specs.Io.KnownBytes.{Consumes, IsAtEnd, ReadConsumes};
+ghost use Rattle.std.specs.Io.KnownBytes.{Appends, Consumes, IsAtEnd, Keeps, ReadConsumes};
+ghost use Rattle.streams.specs.Waiting.{gone};
 
 use std::io;
-use std::io::{ErrorKind, Read};
+use std::io::{ErrorKind, Read, Write};
 
 // One read, and again where a signal interrupts it before a byte has come.
 pub fn read_some<R: Read>(reader: &mut R, buffer: &mut [u8]) -> io::Result<usize>
@@ -42,4 +43,62 @@ pub fn read_full<R: Read>(reader: &mut R, buffer: &mut [u8]) -> io::Result<usize
         done += n;
     }
     Ok(done)
+}
+
+// A writer, and the bytes that wait to be written: the first `used` of the room. After an error what waited may be written in part.
+#[derive(Drop)]
+pub struct Page<W, const N: usize> {
+    pub writer: W,
+    pub bytes: [u8; N],
+    pub used: usize,
+    ghost within: { used ≤ N },
+}
+
+impl<W: Write, const N: usize> Page<W, N> {
+    // Nothing waits.
+    pub fn new(writer: W) -> Self
+        ensures { Keeps (W.contents writer) (gone (W.contents result.writer) result.bytes result.used) }
+    {
+        Page {
+            writer,
+            bytes: [0; N],
+            used: 0,
+        }
+    }
+
+    // What waits is written.
+    pub fn flush(&mut self) -> io::Result<()>
+        ensures went { IfOk result (λ _. Keeps (gone (W.contents self.old.writer) self.old.bytes self.old.used) (gone (W.contents self.new.writer) self.new.bytes self.new.used)) }
+        ensures none { IfOk result (λ _. self.new.used ≡ 0) }
+        ensures err { OnErr result (self.new.used ≡ self.old.used) }
+    {
+        self.writer.write_all(&self.bytes[..self.used])?;
+        self.used = 0;
+        Ok(())
+    }
+
+    // Room for n bytes, for which what waits is written where it takes too much.
+    fn spare(&mut self, n: usize) -> io::Result<()>
+        requires { n ≤ N }
+        ensures fits { IfOk result (λ _. self.new.used + n ≤ N) }
+        ensures went { IfOk result (λ _. Keeps (gone (W.contents self.old.writer) self.old.bytes self.old.used) (gone (W.contents self.new.writer) self.new.bytes self.new.used)) }
+    {
+        if n <= N - self.used {
+            return Ok(());
+        }
+        self.flush()
+    }
+
+    // Some bytes behind those that wait.
+    pub fn put(&mut self, bytes: &[u8]) -> io::Result<()>
+        requires { length bytes.now ≤ N }
+        ensures { IfOk result (λ _. Appends (gone (W.contents self.old.writer) self.old.bytes self.old.used) (gone (W.contents self.new.writer) self.new.bytes self.new.used) bytes.now) }
+    {
+        self.spare(bytes.len())?;
+        let end = self.used + bytes.len();
+        let room = &mut self.bytes[..];
+        room[self.used..end].copy_from_slice(bytes);
+        self.used = end;
+        Ok(())
+    }
 }

@@ -1,17 +1,14 @@
-// Trace: reads a laboratory's text from standard input and prints where each gate of the shortened circuit comes from. A refusal is seen by what is
-// printed, not by an exit status.
+// Trace: reads a laboratory's text from standard input and prints where each gate of the shortened circuit comes from.
 #![tactic(auto)]
 
-use spelling::LIST_BYTES;
 use std::io;
 use trace::TRACE_BYTES;
 
-// One byte more than a text may have, so that a longer one shows; the rest of it is not read.
 fn main(rt: HostRuntime) -> io::Result<()> {
-    let mut text = [0u8; LIST_BYTES + 1];
-    let n = streams::read_full(&mut rt.stdin(), &mut text)?;
-    let mut out = [0u8; TRACE_BYTES];
-    let r = trace::trace(&text[..n], &mut out);
-    let length = r.length;
-    rt.write_all(&out[..length])
+    serving::serve(
+        &mut rt.stdin(),
+        &mut rt.stdout(),
+        [0u8; TRACE_BYTES],
+        trace::trace,
+    )
 }

@@ -1,21 +1,5 @@
--- `dilkovan::dilkovan_plain_list` meets its contract: what `plain_list` says, with the refusal as a number and the length in a room.
-use mathlib.Core.Path.{◌≡◌, refl, ap, ◌∙◌}
-use mathlib.Core.Bool.{Bool, cond}
-use Prim.Native.Nat.{ℕ}
-use borrow.Author.Rules.{rules}
+use Rattle.dilkovan.proofs.Handing.{handed}
 use Rattle.dilkovan.proofs.dilkovan_plain_list.Goals as goal
 
-pub plain_list-q-requires : goal.plain_list-q-requires
-plain_list-q-requires c = search rules
-
-pub flag-requires : goal.flag-requires
-flag-requires c = search rules
-
 pub returns : goal.returns
-returns c =
-    let m = c.plain_list-q.ensures in
-    let told : c.flag.result ≡ cond {A = ℕ} c.plain_list-q.result.refused 1 0 = c.flag.ensures in
-    record {
-      number = told ∙ ap (λ (b : Bool). cond {A = ℕ} b 1 0) m.says.refused;
-      says = record { says = record { text = m.says.text; size = m.says.size; fits = m.says.fits; refused = refl }; same = λ e. m.same (m.says.refused ∙ e); kept = λ e. m.kept (m.says.refused ∙ e) };
-    }
+returns c = handed _ _ _ _ _ _ _ _ c.hand.ensures.told c.hand.ensures.size c.plain_list.ensures.says.refused c.plain_list.ensures
