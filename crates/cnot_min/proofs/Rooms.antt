@@ -70,9 +70,6 @@ module _ (write : Writer) (p : Plan) (w : ℕ) (l out : List ℤ) (terms steps :
   few : s.gates ≤ gates_in l
   few = omega (arith, scan.gates, output-length write p (gates_of l), gates-length l)
 
-  pub low : s.gates ≤ max_gates
-  low = omega (arith, few, fit.checked.few)
-
   pub shorter : length out₁ ≡ length out → width * s.gates ≤ length out₁
   shorter e = omega (arith, few, fit.out-fits)
 
