@@ -375,6 +375,7 @@ pub fn check_gates(list: &[i32], wires: usize, bits: usize, n: usize) -> Result<
 }
 
 // The list against the limits and the rooms, which are given by how many numbers they hold, then its gates.
+// Stays: wires and bits are two numbers, as callers hand them in and each definition takes them; a struct would be taken apart in every clause.
 pub fn check_list(
     list: &[i32],
     wires: usize,
@@ -452,12 +453,14 @@ pub fn stamp(out: &mut [i32], n: usize, line: u32)
     ensures { out.new ≡ stamped line n 0 out.old }
 {
     let l = line as i32;
+    // Stays: `chunks_exact_mut` lends the gates, and tells a proof nothing of what is written to them.
     for i in 0..n {
         out[GATE_WIDTH * i + 5] = l;
     }
 }
 
 // ---- counts: the sum moves by a test, so that the loops have no branch on data
+// Stays: two loops, since `filter` and `count` promise no loop without a branch, and a contract of one loop over any test would be longer than both.
 
 // CNOT and CZ.
 pub fn count_two(list: &[i32]) -> usize
