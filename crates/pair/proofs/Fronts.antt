@@ -9,11 +9,14 @@ use lib.ListN.{length, take, drop, length-append}
 use lib.Seq.{length-take-le}
 use Rattle.rules.specs.Limits.{width}
 use Rattle.spelling.specs.Sizes.{list_bytes, list_gates}
-use Rattle.spelling.specs.Reading.{Front, list, list_at}
+use Rattle.spelling.specs.Reading.{Front, wrong, large, list, list_at}
 use Rattle.spelling.specs.Heads.{head_of}
 use Rattle.spelling.proofs.Spelling.{list_read}
-use Rattle.std.specs.Prelude.{Ok}
-use Rattle.reading.specs.Clauses.{ReadsList, met}
+use Rattle.std.specs.Prelude.{Ok, Err}
+use Rattle.reading.specs.Clauses.{ReadsList, front_of, met}
+use Rattle.reading.specs.declared.Wrong.{Wrong}
+use Rattle.reading.specs.declared.Wrong.TheVariants.{Line, Many}
+use Rattle.saying.specs.Reasons.{place_of, reason_of}
 use Rattle.reading.specs.declared.Listed.{Listed}
 use Rattle.saying.proofs.Places.{front_line, front-line}
 use Rattle.pair.specs.Answer.{refusal, first_as, answer}
@@ -37,6 +40,10 @@ list_stands text line room room' l t =
 -- line numbers are small
 pub line_small : (line : ℕ) (bs : List ℕ) (o : Front) → list_at list_gates line bs ≡ o → front_line o ≤ line + 1000
 line_small line bs o e = omega (arith, ap front_line e, front-line list_gates line bs)
+
+pub wrong-small : (line : ℕ) (bs : List ℕ) (room : List ℤ) (w : Wrong) → front_of room (Err w) ≡ list_at list_gates line bs → place_of (reason_of w) ≤ line + 1000
+wrong-small line bs room (Line k) e = line_small line bs (wrong k) (sym e)
+wrong-small line bs room (Many k) e = line_small line bs (large k) (sym e)
 
 -- ---- the text
 
