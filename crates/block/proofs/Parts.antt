@@ -3,8 +3,8 @@
 --     part-many                         how many rows a part has
 --     part-add, part-rest               in the part a row is added to another: so it is in the room, and the rest stays
 --     behind_more, behind-same, behind-on    what is as it was behind a place is so further back, for a state with as many wires, and step by step
-use Rattle.std.proofs.Common.{◌≡◌, refl, sym, ap, ap₂, ◌∙◌, List, ◌++◌, ℕ, ◌+◌, ◌-◌, ◌≤◌, ◌<◌, length, get_or, set, take, drop, arith}
-use Rattle.std.proofs.lemmas.List.{length-map, take-map, drop-map, map-append}
+use Rattle.std.proofs.Common.{◌≡◌, sym, ap, ap₂, ◌∙◌, List, ◌++◌, ℕ, ◌+◌, ◌-◌, ◌≤◌, ◌<◌, length, get_or, set, take, drop, arith}
+use Rattle.std.proofs.lemmas.List.{take-map, drop-map, map-append}
 use lib.ListN.{take-append-drop}
 use lib.Seq.{drop-drop, drop_at, get_or-take, take-set-lt, drop-set-lt, length-take-le}
 use Rattle.rules.specs.Bit.{xor}

@@ -1,5 +1,6 @@
 // The block under construction: gates fold into its rows, constants and terms. The state goes beside the rooms that are lent:
 // names and table of the join table, rows, term room and the heads of its index.
+// Stays: the rooms are parameters side by side, since a function that takes a struct of lent rooms has to promise of each that it is still the same.
 #![tactic(auto)]
 
 ghost use Rattle.std.specs.Prelude.{◌≡◌, true, ◌+◌, ◌^◌, ◌≤◌, ◌<◌, length, get_or};

@@ -99,9 +99,9 @@ module _ (write : Writer) (run place : List ℤ) (p : Result Code.Budget Spent) 
 -- ---- today's writer
 
 -- nothing is written, nothing is counted
-holds-none : (out : List ℤ) (old : List Gate) → Holds out (budget_of old) []
+holds-none : (out : List ℤ) (gs : List Gate) → Holds out (budget_of gs) []
 unfolding numbers_of twos
-holds-none out old = record { text = refl; two = refl; all = refl }
+holds-none out gs = record { text = refl; two = refl; all = refl }
 
 -- gates emitted within the run's own counts are what a writer says, if it says them
 pub written : (write : Writer) (gs new : List Gate) (before after : List ℤ) (p : Result Code.Budget Spent) → write gs ≡ new

@@ -10,6 +10,7 @@ ghost use Rattle.parity.specs.View.{val, picked};
 
 use std::ops::{BitAnd, BitOr, BitXor};
 
+// Stays: two words and not a u128, as they stand in the rooms that a caller in another language lends.
 #[derive(Clone, Copy)]
 pub struct Parity {
     pub lo: u64,
@@ -122,6 +123,7 @@ impl Parity {
     }
 
     // The lowest column, or 128 where there is none.
+    // Stays: a number for none too, since callers ask `is_zero` first and loops over columns test once.
     pub fn lowest(self) -> u32
         ensures { LowestIs (val self) result }
     {

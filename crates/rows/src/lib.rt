@@ -1,5 +1,4 @@
 // Bit matrices over lent rooms, a parity to a row.
-// A room that a caller counts in words has two words to a row: `2 * n` numbers are n rows, and `&mut held[..2 * n]` is `&mut held[..n]`.
 #![tactic(auto)]
 
 ghost use Rattle.std.specs.Prelude.{◌≡◌, ◌⊎◌, cond, map, ℕ, ◌-◌, ◌^◌, ◌≤◌, ◌<◌, length, get_or, set};
@@ -109,6 +108,7 @@ pub fn set_units(m: &mut [Parity])
 }
 
 // The inverse of `a` into `inv`, by pivots and exchanges of rows; false where a column has no pivot. `a` is used up.
+// Stays: a bool, since the inverse stands in a lent room and an Option would have nothing to hold.
 pub fn invert_into(a: &mut [Parity], inv: &mut [Parity]) -> bool
     requires { (length (rows_of a.old) ≤ 128) × (length inv.old ≡ length a.old) }
     ensures { given result (rows_of inv.new) ≡ inverse (rows_of a.old) }

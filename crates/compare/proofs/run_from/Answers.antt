@@ -6,11 +6,8 @@ use Rattle.gate.specs.Writing.{gate_of}
 use Rattle.rows.specs.Rows.{rows_of}
 use Rattle.block.proofs.Codes.{op-read}
 use Rattle.compare.proofs.Telling.{rows-length}
-use Rattle.compare.proofs.Running.{left-start, left-next, left_end, ready}
+use Rattle.compare.proofs.Running.{left-next, left_end, ready}
 use Rattle.compare.proofs.run_from.Goals as goal
-
-pub loop-k-init : goal.loop-k-init
-loop-k-init c = record { size = refl; left = left-start _ _ _ _ _ _ }
 
 pub step-flips-requires-clause-ready : goal.step-flips-requires-clause-ready
 step-flips-requires-clause-ready c =

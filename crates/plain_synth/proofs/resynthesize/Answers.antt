@@ -1,5 +1,5 @@
 -- `plain_synth::resynthesize` meets its contract: walk, closing map and flips, each behind the one before; or there is no closing map.
-use Rattle.std.proofs.Common.{◌≡◌, length, ap, arith}
+use Rattle.std.proofs.Common.{◌≡◌, length, arith}
 use Rattle.parity.specs.View.{val}
 use Rattle.rows.specs.Rows.{rows_of}
 use Rattle.rows.proofs.Room.{row_count}

@@ -1,5 +1,5 @@
 -- `plain_synth::write_flips` meets its contract.
-use Rattle.std.proofs.Common.{◌+◌, get_or, arith}
+use Rattle.std.proofs.Common.{get_or, arith}
 use Rattle.rules.specs.Bit.{bit}
 use Rattle.parity.specs.View.{val}
 use Rattle.writing.proofs.Following.{wrote_none, wrote_then}

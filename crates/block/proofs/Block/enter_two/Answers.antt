@@ -1,7 +1,7 @@
 -- `Block::enter_two` meets its contract.
 use Rattle.std.proofs.Common.{◌∙◌}
 use native.Mathlib.Nat.{le_trans, lt_of_lt_of_le}
-use Rattle.block.proofs.Entering.{join-grows, rowed-is}
+use Rattle.block.proofs.Entering.{join-grows}
 use Rattle.block.proofs.Parts.{behind-on}
 use Rattle.block.proofs.Block.enter_two.Goals as goal
 

@@ -1,5 +1,5 @@
 -- `Block::fresh` meets its contract.
-use Rattle.std.proofs.Common.{◌≡◌, ◌∙◌, ◌+◌, ◌<◌, ℕ, List, refl, ap, length, get_or, set, drop, add-one, arith}
+use Rattle.std.proofs.Common.{◌≡◌, ◌∙◌, ◌+◌, ◌<◌, ℕ, List, refl, ap, get_or, set, drop, add-one, arith}
 use lib.Seq.{get_or-set_same, get_or-set_other, drop-set-lt}
 use Rattle.rules.specs.Limits.{max_columns}
 use Rattle.rows.specs.Rows.{rows_of}
