@@ -424,14 +424,14 @@ pub fn write(out: &mut [i32], i: usize, g: Gate)
     ensures { out.new ≡ placed out.old i (gate_of g) }
 {
     let at = GATE_WIDTH * i;
-    out[at..at + GATE_WIDTH].copy_from_slice(&[
-        g.code as i32,
-        g.first as i32,
-        g.second as i32,
-        g.third as i32,
-        g.turn as i32,
-        0,
-    ]);
+    let row = &mut out[at..at + GATE_WIDTH];
+    // Stays: six stores, since `copy_from_slice` from an array of the six takes several times as long.
+    row[0] = g.code as i32;
+    row[1] = g.first as i32;
+    row[2] = g.second as i32;
+    row[3] = g.third as i32;
+    row[4] = g.turn as i32;
+    row[5] = 0;
 }
 
 // ---- lines
