@@ -23,6 +23,7 @@ use Rattle.rules.specs.Plan.{Plan}
 use Rattle.rules.specs.Scan.{roomy, takes}
 use Rattle.rules.proofs.Bits.{split, bit_xor, bit-unit, bit-zero, ⊕-false, and_left, and_right}
 use Rattle.parity.specs.View.{val}
+use Rattle.parity.specs.declared.Parity.{Parity}
 use Rattle.parity.proofs.Laws.{xor_zero_r}
 use Rattle.terms.specs.Terms.{terms_of, Indexed}
 use Rattle.rows.specs.Rows.{rows_of}
@@ -51,8 +52,8 @@ module _ (f i : ℕ) where
 
 -- ---- rows
 
-module _ {rs : List Row} {b : State.Block} {table names rows : List ℕ} (h : Joined rs b table names rows) where
-  pub add-joined : (r : State.Block) (rows' : List ℕ) (i q p : ℕ) (s : Bool) → i < b.wires → get_or names i 0 ≡ q → Flips b i s r
+module _ {rs : List Row} {b : State.Block} {table names : List ℕ} {rows : List Parity} (h : Joined rs b table names rows) where
+  pub add-joined : (r : State.Block) (rows' : List Parity) (i q p : ℕ) (s : Bool) → i < b.wires → get_or names i 0 ≡ q → Flips b i s r
       → rows_of rows' ≡ set (rows_of rows) i (xor (get_or (rows_of rows) i 0) p) → Joined (add_row q p s rs) r table names rows'
   unfolding rows_at
   add-joined r rows' i q p s l e k w =
@@ -86,7 +87,7 @@ module _ {rs : List Row} {b : State.Block} {table names rows : List ℕ} (h : Jo
       (sym (ap (λ (v : ℕ). set (rows_of rows) i v) (xor_zero_r (get_or (rows_of rows) i 0)) ∙ set-get_or (rows_of rows) i 0))
 
   -- cnot
-  pub cross-joined : (r : State.Block) (rows' : List ℕ) (i j c t : ℕ) → i < b.wires → j < b.wires → get_or names i 0 ≡ c → get_or names j 0 ≡ t
+  pub cross-joined : (r : State.Block) (rows' : List Parity) (i j c t : ℕ) → i < b.wires → j < b.wires → get_or names i 0 ≡ c → get_or names j 0 ≡ t
       → Crosses b i j (bit (val b.flips) i) rows r rows' → Joined (rows_by (cnot c t) rs) r table names rows'
   unfolding rows_by add_to
   cross-joined r rows' i j c t li lj ei ej k =
@@ -109,7 +110,7 @@ pub terms-same : (b r : State.Block) (room : List ℕ) → r.terms ≡ b.terms �
 unfolding terms_at
 terms-same b r room e = rw e
 
-module _ (rs : List Row) (ts : List Term) (b r : State.Block) (names rows room table' names' rows' heads : List ℕ) (x : Indexed heads room b.terms) where
+module _ (rs : List Row) (ts : List Term) (b r : State.Block) (names : List ℕ) (rows : List Parity) (room table' names' : List ℕ) (rows' : List Parity) (heads : List ℕ) (x : Indexed heads room b.terms) where
   kept : Folded ts b room → r.terms ≡ b.terms → Folded ts r room
   kept f e = record { few = rw e f.few; same = terms-same b r room e ∙ f.same }
 
@@ -124,7 +125,7 @@ module _ (rs : List Row) (ts : List Term) (b r : State.Block) (names rows room t
   cnot-absorbs c t m f = record { holds = record { rows_are = m.joined; terms-are = kept f m.terms }; more = m.more; grows = omega (arith, m.terms); behind = m.behind; rest = refl; indexed = rw m.terms x }
 
 -- e is the block with the gate's wires joined, r the block after
-module _ (rs : List Row) (b e r : State.Block) (names rows table' names' rows' room room' heads' : List ℕ) (same : e.terms ≡ b.terms) (more : b.wires ≤ e.wires) (behind : Behind e names rows names' rows') where
+module _ (rs : List Row) (b e r : State.Block) (names : List ℕ) (rows : List Parity) (table' names' : List ℕ) (rows' : List Parity) (room room' heads' : List ℕ) (same : e.terms ≡ b.terms) (more : b.wires ≤ e.wires) (behind : Behind e names rows names' rows') where
   pub turn-absorbs : (k i q : ℕ) → Joined (join q rs) e table' names' rows' → i < e.wires → get_or names' i 0 ≡ q
       → Turns (add_term (get_or (rows_of rows') i 0) (signed (bit (val e.flips) i) k) (terms_at e room)) e r room room' heads'
       → Absorbs (absorb (phase k q) (record { rows = rs; terms = terms_at b room })) b r names rows room table' names' rows' room' heads'
@@ -157,7 +158,7 @@ module _ (rs : List Row) (b e r : State.Block) (names rows table' names' rows' r
     indexed = k.indexed;
   }
 
-pub absorb-ready : {p : Block} {b : State.Block} {table names rows room heads : List ℕ} → Holds p b table names rows room
+pub absorb-ready : {p : Block} {b : State.Block} {table names : List ℕ} {rows : List Parity} {room heads : List ℕ} → Holds p b table names rows room
     → (g : Gate) (plan : Plan) → Wired g table → plan.qubits ≤ max_columns → b.terms + 3 ≤ length (terms_of room) → b.terms + 3 ≤ 2 ^ 32 → Indexed heads room b.terms
     → takes plan (op (gate_of g)) p ≡ true → Absorbable b g table names rows room heads
 unfolding takes

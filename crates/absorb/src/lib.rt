@@ -13,77 +13,68 @@ ghost use Rattle.absorb.specs.Absorbing.{Moves, Absorbs, Absorbable};
 use block::Block;
 use gate::Gate;
 use join::Wire;
+use parity::Parity;
 use rules::{CODE_CNOT, CODE_CZ, CODE_RZ, CODE_X};
 
-fn absorb_x(b: Block, q: Wire, table: &mut [u32], names: &mut [u32], rows: &mut [u64]) -> Block
-    requires { Enterable b q.0 table.old names.old rows.old }
-    ensures { Moves (Fold.rows_by (flip q.0) (Fold.entered (flip q.0) (rows_at b names.old rows.old))) b result names.old rows.old table.new names.new rows.new }
+fn absorb_x(b: &mut Block, q: Wire, table: &mut [u32], names: &mut [u32], rows: &mut [Parity])
+    requires { Enterable b.old q.0 table.old names.old rows.old }
+    ensures { Moves (Fold.rows_by (flip q.0) (Fold.entered (flip q.0) (rows_at b.old names.old rows.old))) b.old b.new names.old rows.old table.new names.new rows.new }
 {
-    let e = block::enter(b, q, table, names, rows);
-    let block = e.block;
-    let at = e.at;
-    block::fold_x(block, at)
+    let at = b.enter(q, table, names, rows);
+    b.fold_x(at);
 }
 
 fn absorb_cnot(
-    b: Block,
+    b: &mut Block,
     c: Wire,
     t: Wire,
     table: &mut [u32],
     names: &mut [u32],
-    rows: &mut [u64],
-) -> Block
-    requires { EnterableTwo b c.0 t.0 table.old names.old rows.old }
-    ensures { Moves (Fold.rows_by (cnot c.0 t.0) (Fold.entered (cnot c.0 t.0) (rows_at b names.old rows.old))) b result names.old rows.old table.new names.new rows.new }
+    rows: &mut [Parity],
+)
+    requires { EnterableTwo b.old c.0 t.0 table.old names.old rows.old }
+    ensures { Moves (Fold.rows_by (cnot c.0 t.0) (Fold.entered (cnot c.0 t.0) (rows_at b.old names.old rows.old))) b.old b.new names.old rows.old table.new names.new rows.new }
 {
-    let e = block::enter_two(b, c, t, table, names, &mut *rows);
-    let block = e.block;
-    let control = e.control;
-    let target = e.target;
-    block::fold_cnot(block, control, target, &mut *rows)
+    let (control, target) = b.enter_two(c, t, table, names, &mut *rows);
+    b.fold_cnot(control, target, rows);
 }
 
 fn absorb_turn(
-    b: Block,
+    b: &mut Block,
     q: Wire,
     k: u8,
     table: &mut [u32],
     names: &mut [u32],
-    rows: &mut [u64],
+    rows: &mut [Parity],
     room: &mut [u64],
     heads: &mut [u32],
-) -> Block
-    requires enterable { Enterable b q.0 table.old names.old rows.old }
-    requires terms_in_bounds { b.terms < length (terms_of room.old) }
-    requires terms_bound { (b.terms < 2 ^ 32) × Indexed heads.old room.old b.terms }
-    ensures { Absorbs (Fold.absorb (phase k q.0) (block_at b names.old rows.old room.old)) b result names.old rows.old room.old table.new names.new rows.new room.new heads.new }
+)
+    requires enterable { Enterable b.old q.0 table.old names.old rows.old }
+    requires terms_in_bounds { b.old.terms < length (terms_of room.old) }
+    requires terms_bound { (b.old.terms < 2 ^ 32) × Indexed heads.old room.old b.old.terms }
+    ensures { Absorbs (Fold.absorb (phase k q.0) (block_at b.old names.old rows.old room.old)) b.old b.new names.old rows.old room.old table.new names.new rows.new room.new heads.new }
 {
-    let e = block::enter(b, q, table, names, &mut *rows);
-    let block = e.block;
-    let at = e.at;
-    block::fold_turn(block, at, k, &*rows, room, heads)
+    let at = b.enter(q, table, names, &mut *rows);
+    b.fold_turn(at, k, &*rows, room, heads);
 }
 
 fn absorb_cz(
-    b: Block,
+    b: &mut Block,
     c: Wire,
     t: Wire,
     table: &mut [u32],
     names: &mut [u32],
-    rows: &mut [u64],
+    rows: &mut [Parity],
     room: &mut [u64],
     heads: &mut [u32],
-) -> Block
-    requires enterable_two { EnterableTwo b c.0 t.0 table.old names.old rows.old }
-    requires terms_in_bounds { b.terms + 3 ≤ length (terms_of room.old) }
-    requires terms_bound { (b.terms + 3 ≤ 2 ^ 32) × Indexed heads.old room.old b.terms }
-    ensures { Absorbs (Fold.absorb (cz c.0 t.0) (block_at b names.old rows.old room.old)) b result names.old rows.old room.old table.new names.new rows.new room.new heads.new }
+)
+    requires enterable_two { EnterableTwo b.old c.0 t.0 table.old names.old rows.old }
+    requires terms_in_bounds { b.old.terms + 3 ≤ length (terms_of room.old) }
+    requires terms_bound { (b.old.terms + 3 ≤ 2 ^ 32) × Indexed heads.old room.old b.old.terms }
+    ensures { Absorbs (Fold.absorb (cz c.0 t.0) (block_at b.old names.old rows.old room.old)) b.old b.new names.old rows.old room.old table.new names.new rows.new room.new heads.new }
 {
-    let e = block::enter_two(b, c, t, table, names, &mut *rows);
-    let block = e.block;
-    let control = e.control;
-    let target = e.target;
-    block::fold_cz(block, control, target, &*rows, room, heads)
+    let (control, target) = b.enter_two(c, t, table, names, &mut *rows);
+    b.fold_cz(control, target, &*rows, room, heads);
 }
 
 // The turn that a name stands for: t, tdg, s, sdg, z, by its place in a table. A chain of tests becomes a jump by the code, which random codes miss.
@@ -104,29 +95,26 @@ pub fn turn_of(code: u32, k: u8) -> u8
 
 // One gate of the fragment.
 pub fn absorb(
-    b: Block,
+    b: &mut Block,
     g: Gate,
     table: &mut [u32],
     names: &mut [u32],
-    rows: &mut [u64],
+    rows: &mut [Parity],
     room: &mut [u64],
     heads: &mut [u32],
-) -> Block
-    requires { Absorbable b g table.old names.old rows.old room.old heads.old }
-    ensures { Absorbs (Fold.absorb (op (gate_of g)) (block_at b names.old rows.old room.old)) b result names.old rows.old room.old table.new names.new rows.new room.new heads.new }
+)
+    requires { Absorbable b.old g table.old names.old rows.old room.old heads.old }
+    ensures { Absorbs (Fold.absorb (op (gate_of g)) (block_at b.old names.old rows.old room.old)) b.old b.new names.old rows.old room.old table.new names.new rows.new room.new heads.new }
 {
-    let code = g.code;
     let first = Wire(g.first);
     let second = Wire(g.second);
-    if code == CODE_X {
-        return absorb_x(b, first, table, names, rows);
+    match g.code {
+        CODE_X => absorb_x(b, first, table, names, rows),
+        CODE_CNOT => absorb_cnot(b, first, second, table, names, rows),
+        CODE_CZ => absorb_cz(b, first, second, table, names, rows, room, heads),
+        code => {
+            let k = turn_of(code, g.turn);
+            absorb_turn(b, first, k, table, names, rows, room, heads)
+        }
     }
-    if code == CODE_CNOT {
-        return absorb_cnot(b, first, second, table, names, rows);
-    }
-    if code == CODE_CZ {
-        return absorb_cz(b, first, second, table, names, rows, room, heads);
-    }
-    let k = turn_of(code, g.turn);
-    absorb_turn(b, first, k, table, names, rows, room, heads)
 }

@@ -6,7 +6,7 @@ ghost use Rattle.acting.specs.Alike.{number_of};
 ghost use Rattle.acting.specs.Answer.{verdict_of};
 
 // The runs are the same, or the first that differs of linear map, flips and phase.
-#[derive(Clone, Copy)]
+#[derive(Clone, Copy, PartialEq, Eq)]
 pub enum Verdict {
     Same,
     Map,
@@ -15,13 +15,15 @@ pub enum Verdict {
 }
 
 // The answer as a caller in another language gets it.
-pub fn number(v: Verdict) -> u64
-    ensures { result ≡ number_of (verdict_of v) }
-{
-    match v {
-        Verdict::Same => 0,
-        Verdict::Map => 1,
-        Verdict::Flips => 2,
-        Verdict::Phase => 3,
+impl From<Verdict> for u64 {
+    ghost from_gives = { λ v r. r ≡ number_of (verdict_of v) };
+
+    fn from(v: Verdict) -> u64 {
+        match v {
+            Verdict::Same => 0,
+            Verdict::Map => 1,
+            Verdict::Flips => 2,
+            Verdict::Phase => 3,
+        }
     }
 }

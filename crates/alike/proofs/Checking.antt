@@ -6,14 +6,14 @@ use Prim.Native.Nat.{ℕ, zero, suc, ◌+◌, ◌-◌, ◌/◌, ◌%◌, ◌≤�
 use native.Mathlib.Nat.{not-suc-le-zero, le_of_suc-le-suc}
 use native.Mathlib.Numerals.{add-one}
 use native.Mathlib.Omega.{arith}
-use borrow.Author.Tests.{eqb-true, eq-eqb, ne_eqb, leb-true, ltb-false, not-false}
+use borrow.Author.Tests.{eqb-true, eq-eqb, leb-true, ltb-false, not-false}
 use lib.Dec.{eqb, leb, ltb}
 use lib.IntN.{ℤ}
 use lib.ListN.{length}
 use Rattle.rules.specs.Limits.{width, last_code, last_fragment, max_gates, max_wires, max_columns}
 use Rattle.rules.specs.Gate.{from, second, bitted, third, fragment}
 use Rattle.rules.specs.Numbers.{nat_of, inside, negative, field, gate_at}
-use Rattle.rules.specs.Refusal.{Refusal, Fault, Verdict, accepted, refused, refuse, tell, none, first_number, ruled, unused, apart, fault_of, fault_at}
+use Rattle.rules.specs.Refusal.{Refusal, Fault, Verdict, accepted, refused, tell, none, first_number, ruled, unused, apart, fault_of, fault_at}
 use Rattle.rules.proofs.Bits.{split, and_right}
 use Rattle.rules.proofs.Accepting.{first-map}
 use Rattle.gate.specs.declared.Fault as Code

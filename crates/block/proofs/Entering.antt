@@ -21,6 +21,7 @@ use Rattle.rules.specs.Bit.{bit}
 use Rattle.rules.specs.Fold.{Row, empty, joined, row_of, join, fresh}
 use Rattle.rules.proofs.Bits.{split, bit-zero}
 use Rattle.parity.specs.View.{val}
+use Rattle.parity.specs.declared.Parity.{Parity}
 use Rattle.rows.specs.Rows.{rows_of}
 use Rattle.join.specs.Tables as Tables
 use Rattle.join.proofs.Joining.{joined_once, joins-none}
@@ -29,7 +30,7 @@ use Rattle.block.specs.Steps.{Empty}
 use Rattle.block.specs.declared.Block as State
 use Rattle.block.proofs.Rowing.{row-eq, rows-length, rows_snoc, rows_ext, rows_none, rows-met, row-met}
 
-module _ {rs : List Row} {b : State.Block} {table names rows : List ℕ} (h : Joined rs b table names rows) where
+module _ {rs : List Row} {b : State.Block} {table names : List ℕ} {rows : List Parity} (h : Joined rs b table names rows) where
   pub rows_are : rs ≡ rows_from (row_at names (rows_of rows) (val b.flips)) b.wires 0
   unfolding rows_at
   rows_are = sym h.same
@@ -81,7 +82,7 @@ join-size q rs =
 pub join-grows : (q : ℕ) (rs : List Row) → length rs ≤ length (join q rs)
 join-grows q rs = let e = join-size q rs in omega arith
 
-module _ {b : State.Block} {table names rows : List ℕ} (h : Rowed b table names rows) (q : ℕ) where
+module _ {b : State.Block} {table names : List ℕ} {rows : List Parity} (h : Rowed b table names rows) (q : ℕ) where
   -- where q has joined, the rows stay
   pub enter-old : (i : ℕ) → get_or table q 0 ≡ suc i → Joined (join q (rows_at b names rows)) b table names rows
   enter-old i e =
@@ -98,7 +99,7 @@ module _ {b : State.Block} {table names rows : List ℕ} (h : Rowed b table name
       omega (arith, wires-are h)
 
   -- where it has not, its row is added
-  pub enter-new : (table' names' rows' : List ℕ) (r : State.Block) → get_or table q 0 ≡ 0 → b.wires < max_columns
+  pub enter-new : (table' names' : List ℕ) (rows' : List Parity) (r : State.Block) → get_or table q 0 ≡ 0 → b.wires < max_columns
       → Tables.Enters table names b.wires q table' names' → rows_of rows' ≡ set (rows_of rows) b.wires (2 ^ b.wires)
       → r.wires ≡ suc b.wires → r.flips ≡ b.flips → Joined (join q (rows_at b names rows)) r table' names' rows'
   unfolding rows_at
@@ -130,7 +131,7 @@ module _ {b : State.Block} {table names rows : List ℕ} (h : Rowed b table name
 
 -- ---- an empty block
 
-pub empty_holds : (b : State.Block) (table names rows room : List ℕ) → Empty b → ((q : ℕ) → get_or table q 0 ≡ 0)
+pub empty_holds : (b : State.Block) (table names : List ℕ) (rows : List Parity) (room : List ℕ) → Empty b → ((q : ℕ) → get_or table q 0 ≡ 0)
     → max_columns ≤ length names → max_columns ≤ length (rows_of rows) → Holds empty b table names rows room
 unfolding rows_at rows_from terms_at
 empty_holds b table names rows room e z n w = record {

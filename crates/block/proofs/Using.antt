@@ -8,6 +8,7 @@ use lib.ListN.{length}
 use Rattle.rules.specs.Gate as Codes
 use Rattle.rules.specs.Fold.{Block}
 use Rattle.rules.proofs.Accepting.{Fit}
+use Rattle.parity.specs.declared.Parity.{Parity}
 use Rattle.gate.specs.Reading.{Reads}
 use Rattle.gate.specs.declared.Gate.{Gate}
 use Rattle.block.specs.View.{block_at, Holds, InStep}
@@ -15,7 +16,7 @@ use Rattle.block.specs.Steps.{Wired}
 use Rattle.block.specs.declared.Block as State
 use Rattle.block.proofs.Entering.{rowed-is}
 
-module _ {p : Block} {b : State.Block} {table names rows room : List ℕ} (h : Holds p b table names rows room) where
+module _ {p : Block} {b : State.Block} {table names : List ℕ} {rows : List Parity} {room : List ℕ} (h : Holds p b table names rows room) where
   pub holds_same : block_at b names rows room ≡ p
   holds_same = ap₂ (λ rs ts. record { rows = rs; terms = ts }) h.rows_are.same h.terms-are.same
 

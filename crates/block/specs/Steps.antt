@@ -6,12 +6,11 @@ use Rattle.rules.specs.Gate.{second, code_rz}
 use Rattle.rules.specs.Fold.{Term, join, add_term, signed}
 use Rattle.rules.specs.Close.{add_to}
 use Rattle.parity.specs.View.{val}
+use Rattle.parity.specs.declared.Parity.{Parity}
 use Rattle.terms.specs.Terms.{Indexed}
 use Rattle.rows.specs.Rows.{rows_of}
 use Rattle.block.specs.View.{rows_at, Joined, Folded, Rowed}
 use Rattle.block.specs.declared.Block.{Block}
-use Rattle.block.specs.declared.Entered.{Entered}
-use Rattle.block.specs.declared.EnteredTwo.{EnteredTwo}
 use Rattle.gate.specs.declared.Gate.{Gate}
 
 -- no wire, no constant, no term
@@ -22,42 +21,42 @@ pub record Empty (b : Block) : Type 0 where
 
 -- ---- a wire joins
 
-pub record Enterable (b : Block) (q : ℕ) (table names rows : List ℕ) : Type 0 where
+pub record Enterable (b : Block) (q : ℕ) (table names : List ℕ) (rows : List Parity) : Type 0 where
   pub rowed : Rowed b table names rows
   pub inside : q < length table
   pub few : length (join q (rows_at b names rows)) ≤ max_columns
 
-pub record EnterableTwo (b : Block) (c t : ℕ) (table names rows : List ℕ) : Type 0 where
+pub record EnterableTwo (b : Block) (c t : ℕ) (table names : List ℕ) (rows : List Parity) : Type 0 where
   pub rowed : Rowed b table names rows
   pub control : c < length table
   pub target : t < length table
   pub few : length (join t (join c (rows_at b names rows))) ≤ max_columns
 
 -- behind the wires that have joined, names and rows are as they were
-pub record Behind (b : Block) (names rows names' rows' : List ℕ) : Type 0 where
+pub record Behind (b : Block) (names : List ℕ) (rows : List Parity) (names' : List ℕ) (rows' : List Parity) : Type 0 where
   pub names-rest : drop b.wires names' ≡ drop b.wires names
-  pub rows-rest : drop (2 * b.wires) rows' ≡ drop (2 * b.wires) rows
+  pub rows-rest : drop b.wires rows' ≡ drop b.wires rows
 
--- r has the rows with q joined and q's index; the indices of the wires before stay theirs
-pub record Enters (q : ℕ) (b : Block) (names rows : List ℕ) (r : Entered) (table' names' rows' : List ℕ) : Type 0 where
-  pub joined : Joined (join q (rows_at b names rows)) r.block table' names' rows'
-  pub terms : r.block.terms ≡ b.terms
-  pub more : b.wires ≤ r.block.wires
+-- r has the rows with q joined, at q's index; the indices of the wires before stay theirs
+pub record Enters (q : ℕ) (b : Block) (names : List ℕ) (rows : List Parity) (r : Block) (index : ℕ) (table' names' : List ℕ) (rows' : List Parity) : Type 0 where
+  pub joined : Joined (join q (rows_at b names rows)) r table' names' rows'
+  pub terms : r.terms ≡ b.terms
+  pub more : b.wires ≤ r.wires
   pub kept : (i : ℕ) → i < b.wires → get_or names' i 0 ≡ get_or names i 0
-  pub at : r.at.0 < r.block.wires
-  pub name : get_or names' r.at.0 0 ≡ q
-  pub behind : Behind r.block names rows names' rows'
+  pub at : index < r.wires
+  pub name : get_or names' index 0 ≡ q
+  pub behind : Behind r names rows names' rows'
 
--- the same of two wires that join one after the other
-pub record EntersTwo (c t : ℕ) (b : Block) (names rows : List ℕ) (r : EnteredTwo) (table' names' rows' : List ℕ) : Type 0 where
-  pub joined : Joined (join t (join c (rows_at b names rows))) r.block table' names' rows'
-  pub terms : r.block.terms ≡ b.terms
-  pub more : b.wires ≤ r.block.wires
-  pub control : r.control.0 < r.block.wires
-  pub target : r.target.0 < r.block.wires
-  pub control-name : get_or names' r.control.0 0 ≡ c
-  pub target_name : get_or names' r.target.0 0 ≡ t
-  pub behind : Behind r.block names rows names' rows'
+-- the same of two wires that join one after the other, at the indices i and j
+pub record EntersTwo (c t : ℕ) (b : Block) (names : List ℕ) (rows : List Parity) (r : Block) (i j : ℕ) (table' names' : List ℕ) (rows' : List Parity) : Type 0 where
+  pub joined : Joined (join t (join c (rows_at b names rows))) r table' names' rows'
+  pub terms : r.terms ≡ b.terms
+  pub more : b.wires ≤ r.wires
+  pub control : i < r.wires
+  pub target : j < r.wires
+  pub control-name : get_or names' i 0 ≡ c
+  pub target_name : get_or names' j 0 ≡ t
+  pub behind : Behind r names rows names' rows'
 
 -- ---- the folds, on local indices
 
@@ -68,10 +67,10 @@ pub record Flips (b : Block) (i : ℕ) (s : Bool) (r : Block) : Type 0 where
   pub terms : r.terms ≡ b.terms
 
 -- row c and the constant s are added to row t and its constant
-pub record Crosses (b : Block) (c t : ℕ) (s : Bool) (rows : List ℕ) (r : Block) (rows' : List ℕ) : Type 0 where
+pub record Crosses (b : Block) (c t : ℕ) (s : Bool) (rows : List Parity) (r : Block) (rows' : List Parity) : Type 0 where
   pub flips : Flips b t s r
   pub held : rows_of rows' ≡ add_to c t (rows_of rows)
-  pub rest : drop (2 * b.wires) rows' ≡ drop (2 * b.wires) rows
+  pub rest : drop b.wires rows' ≡ drop b.wires rows
 
 -- only the terms change, and the heads are of their index; behind them the term room is as it was
 pub record Turns (ts : List Term) (b r : Block) (room room' heads' : List ℕ) : Type 0 where

@@ -8,12 +8,16 @@ use native.Mathlib.Numerals.{add-one}
 use native.Mathlib.Omega.{arith}
 use lib.ListN.{length, get_or, length-append}
 use lib.Seq.{length-take-le}
+use Rattle.parity.specs.declared.Parity.{Parity}
+use Rattle.parity.specs.View.{val, none as no_columns}
 use Rattle.rules.specs.Bit.{bit}
 use Rattle.rules.specs.Walk.{cn}
 use Rattle.rules.specs.Close.{first_with, Adds, note, clear, and_then, diagonal, reduce_from}
 use Rattle.rules.proofs.Bits.{split}
+use Rattle.rules.proofs.Closing.{first-is}
 use Rattle.rules.proofs.Counting.{size}
 use Rattle.rows.specs.Rows.{rows_of, other_has}
+use Rattle.rows.proofs.Room.{row_get}
 use Rattle.closing.specs.Additions.{steps_of, held, wanted, Over, Made}
 use Rattle.closing.proofs.Entries.{step_count}
 
@@ -24,13 +28,32 @@ module _ (n c : ℕ) (d : Adds) where
   unfolding diagonal
   diagonal-have e = rw e
 
-  pub diagonal-none : bit (get_or d.rows c 0) c ≡ false → first_with c (n - (c + 1)) (c + 1) d.rows ≡ none → diagonal n c d ≡ none
+  pub diagonal-none : bit (get_or d.rows c 0) c ≡ false → none ≡ first_with c (n - (c + 1)) (c + 1) d.rows → diagonal n c d ≡ none
   unfolding diagonal
-  diagonal-none e f = rw (← add-one c, e, f)
+  diagonal-none e f = rw (← add-one c, e, ← f)
 
-  pub diagonal-give : (r : ℕ) → bit (get_or d.rows c 0) c ≡ false → first_with c (n - (c + 1)) (c + 1) d.rows ≡ some r → diagonal n c d ≡ some (note r c d)
+  pub diagonal-give : (r : ℕ) → bit (get_or d.rows c 0) c ≡ false → some r ≡ first_with c (n - (c + 1)) (c + 1) d.rows → diagonal n c d ≡ some (note r c d)
   unfolding diagonal
-  diagonal-give r e f = rw (← add-one c, e, f)
+  diagonal-give r e f = rw (← add-one c, e, ← f)
+
+-- the same of what the code holds, by what it tests
+module _ (m : List Parity) (room : List ℕ) (k c : ℕ) where
+  pub diagonal-here : true ≡ bit (val (get_or m c no_columns)) c → diagonal (length (rows_of m)) c (held m room k) ≡ some (held m room k)
+  unfolding held
+  diagonal-here e = diagonal-have _ c (held m room k) (rw (row_get m c) (sym e))
+
+  module _ (e : false ≡ bit (val (get_or m c no_columns)) c) where
+    pub diagonal-nowhere : none ≡ first_with c (length (rows_of m) - (c + 1)) (c + 1) (rows_of m) → diagonal (length (rows_of m)) c (held m room k) ≡ none
+    unfolding held
+    diagonal-nowhere f = diagonal-none _ c (held m room k) (rw (row_get m c) (sym e)) f
+
+    pub diagonal-donor : (r : ℕ) → some r ≡ first_with c (length (rows_of m) - (c + 1)) (c + 1) (rows_of m)
+        → diagonal (length (rows_of m)) c (held m room k) ≡ some (note r c (held m room k))
+    unfolding held
+    diagonal-donor r f = diagonal-give _ c (held m room k) r (rw (row_get m c) (sym e)) f
+
+pub donor-inside : (m : List ℕ) (c r : ℕ) → c < length m → some r ≡ first_with c (length m - (c + 1)) (c + 1) m → r < length m
+donor-inside m c r l f = let h = first-is c (length m - (c + 1)) (c + 1) m r (sym f) in omega (arith, h.1)
 
 -- ---- a row
 
@@ -65,6 +88,12 @@ module _ (n c : ℕ) (d : Adds) where
 
   pub reduce-stuck : c < n → diagonal n c d ≡ none → reduce_from n (n - c) c d ≡ none
   reduce-stuck l f = step l ∙ rw f
+
+-- a column's diagonal is filled
+pub column-filled : (W : Option Adds) (n c k j : ℕ) (m m' : List Parity) (room room' : List ℕ) → W ≡ reduce_from n (n - c) c (held m room k) → c < n
+    → length (rows_of m) ≡ n → length (rows_of m') ≡ n → diagonal (length (rows_of m)) c (held m room k) ≡ some (held m' room' j)
+    → W ≡ reduce_from n (n - (c + 1)) (c + 1) (clear c (length (rows_of m')) 0 (held m' room' j))
+column-filled W n c k j m m' room room' w l s s' e = rw s' (w ∙ reduce-next n c (held m room k) (held m' room' j) l (rw s at e))
 
 -- ---- additions are never taken back
 
@@ -102,7 +131,7 @@ over-more limit n (suc k) c d l = go (diagonal n c d) refl (over-more limit n k 
 
 -- ---- where the loops begin, and each way out; W is what is wanted
 
-pub start : (m room : List ℕ) → wanted (rows_of m) ≡ reduce_from (length (rows_of m)) (length (rows_of m) - 0) 0 (held m room 0)
+pub start : (m : List Parity) (room : List ℕ) → wanted (rows_of m) ≡ reduce_from (length (rows_of m)) (length (rows_of m) - 0) 0 (held m room 0)
 unfolding held
 start m room = let s : length (rows_of m) - 0 ≡ length (rows_of m) = omega arith in rw s
 
@@ -113,7 +142,7 @@ lost-diagonal limit n c d W w l h = rw (w ∙ step n c d l) (go (diagonal n c d)
     go none q = tt
     go (some e) q = over-more limit n (n - (c + 1)) (c + 1) (clear c n zero e) (omega (arith, clear-grows c n zero e))
 
-module _ (m room : List ℕ) (k : ℕ) (fits : 2 * k ≤ length room) where
+module _ (m : List Parity) (room : List ℕ) (k : ℕ) (fits : 2 * k ≤ length room) where
   pub held-size : size (held m room k) ≡ k
   unfolding held
   held-size = length-take-le k (steps_of room) (omega (arith, step_count room))

@@ -21,12 +21,13 @@ use Rattle.rules.proofs.Counting.{reduce-size}
 use Rattle.rules.proofs.Passing.{twos-append}
 use Rattle.rules.proofs.Steps.{emit-append, emit-one, pure-count, within-back, Ends, within-at, closing_same, closing-stuck, closing-by, closing-steps}
 use Rattle.emit.specs.Emitted.{Holds, Ready, Passes, dear, long, Emits}
-use Rattle.emit.proofs.Appending.{emits_none}
-use Rattle.rows.specs.Rows.{given}
-use Rattle.rows.proofs.Room.{two-get}
+use Rattle.emit.proofs.Appending.{emits_none, emits_then, emits-stop}
+use Rattle.parity.specs.declared.Parity.{Parity}
+use Rattle.rows.specs.Rows.{rows_of, given}
+use Rattle.rows.proofs.Room.{row_count}
 use Rattle.closing.specs.Additions.{steps_of, wanted, Over, Made}
-use Rattle.closing.specs.Emission.{left_of, Wired, Sent, backwards, reversed, needed_rows, Sends, Closes}
-use Rattle.closing.proofs.Entries.{step_count}
+use Rattle.closing.specs.Emission.{left_of, Wired, Sent, backwards, reversed, needed_rows, Sendable, Sends, Rooms, Closes}
+use Rattle.closing.proofs.Entries.{step_count, step_get}
 
 -- more CNOTs than the budget has left
 pub emits-lost : (ws : List ℕ) (c : List Step) (out : List ℤ) (b : Budget) → Pure c → left_of b < length c → Emits (emit ws c) out b out b false
@@ -65,8 +66,7 @@ module _ (ws steps : List ℕ) (k : ℕ) (fits : 2 * k ≤ length steps) where
   sent-none = ap (λ (l : List Step). emit ws (reverse l)) (ap (λ (j : ℕ). drop j (take k (steps_of steps))) (sym few) ∙ drop-length (take k (steps_of steps)))
 
   entry : (i : ℕ) → i < k → get_or (take k (steps_of steps)) i (cn 0 0) ≡ cn (get_or steps (2 * i) 0) (get_or steps (2 * i + 1) 0)
-  unfolding steps_of
-  entry i l = get_or-take k (steps_of steps) i (cn 0 0) l ∙ two-get cn steps i (cn 0 0) (omega (arith, step_count steps))
+  entry i l = get_or-take k (steps_of steps) i (cn 0 0) l ∙ step_get steps i (cn 0 0) (omega (arith, step_count steps))
 
   pub sent-next : (i : ℕ) → 0 < i → i ≤ k → sent ws steps k (i - 1) ≡ sent ws steps k i ++ (gate_at ws steps (i - 1) ∷ [])
   sent-next i p l =
@@ -85,6 +85,16 @@ module _ (ws steps : List ℕ) (k : ℕ) (fits : 2 * k ≤ length steps) where
       ap (λ (l : List Step). emit ws (reverse l)) (sym (take-append-drop i all))
       ∙ ap (emit ws) (reverse-append (take i all) (drop i all))
       ∙ emit-append ws (reverse (drop i all)) (reverse (take i all))
+
+  module _ {o o₁ o₂ : List ℤ} {b b₁ b₂ : Budget} {w : Bool} (i : ℕ) (p : 0 < i) (l : i ≤ k) (before : Emits (sent ws steps k i) o b o₁ b₁ true)
+      (one : Emits (gate_at ws steps (i - 1) ∷ []) o₁ b₁ o₂ b₂ w) where
+    -- one entry more is emitted
+    pub sent-more : Emits (sent ws steps k (i - 1)) o b o₂ b₂ w
+    sent-more = rw (sent-next i p l) (emits_then before one)
+
+    -- or the budget was spent by it
+    pub sent-stop : w ≡ false → Emits (emit ws (backwards steps k)) o b o₂ b₂ false
+    sent-stop e = rw (sent-rest (i - 1)) (emits-stop (sent ws steps k (i - 1)) _ _ _ _ _ (subst (Emits (sent ws steps k (i - 1)) o b o₂ b₂) e sent-more))
 
 -- ---- the reduction's answer, as the closing map
 
@@ -164,6 +174,23 @@ closes-needed from to rows e f = go (inverse from) refl f
               ∙ ap reversed (sym g),
           ap length g ∙ length-map to (λ v. times v 0 inv),
         )
+
+-- and what it takes to send it is there
+pub needed-sendable : (from to spare m : List Parity) (names room : List ℕ) (most : ℕ) → Rooms from to spare names room most → eq_rows (rows_of from) (rows_of to) ≡ false
+    → given true (rows_of m) ≡ needed_rows (inverse (rows_of from)) (rows_of to) → Sendable m names room most
+needed-sendable from to spare m names room most p e f =
+    let n = closes-needed (rows_of from) (rows_of to) (rows_of m) e f in
+    record {
+      few = rw n.1 p.matrices.few;
+      named = p.named ∙ sym n.1;
+      wired = p.wired;
+      steps = rw n.1 p.steps;
+      from = rows_of from;
+      to = rows_of to;
+      square = omega (arith, p.matrices.held, row_count from, row_count to);
+      sized = sym n.1;
+      closes = n.0;
+    }
 
 -- no map is needed that could be had
 pub stuck-none : (from to rows : List ℕ) → eq_rows from to ≡ false → given false rows ≡ needed_rows (inverse from) to → closing from to ≡ none

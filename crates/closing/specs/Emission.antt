@@ -1,6 +1,7 @@
 -- What the closing map emits, and what that asks of the rooms.
 use Rattle.std.specs.Prelude.{◌≡◌, Bool, false, List, map, reverse, ℕ, zero, ◌+◌, ◌-◌, ◌*◌, ◌^◌, ◌≤◌, ◌<◌, min, ℤ, length, get_or, take}
 use Rattle.std.proofs.Math.Option.{Option, none, some}
+use Rattle.parity.specs.declared.Parity.{Parity}
 use Rattle.rules.specs.Limits.{max_columns}
 use Rattle.rules.specs.Walk.{Step}
 use Rattle.rules.specs.Close.{times, and_then, closing}
@@ -17,6 +18,19 @@ left_of b = min (b.max_two - b.two) (b.max_all - b.all)
 -- each circuit wire is a number that a gate can hold
 abbrev pub Wired : List ℕ → Type 0
 Wired names = (i : ℕ) → i < length names → get_or names i 0 < 2 ^ 31
+
+-- entry i of a room, two numbers, is between indices that have names
+pub record IsNamed (names steps : List ℕ) (i : ℕ) : Type 0 where
+  pub fits : 2 * i + 1 < length steps
+  pub added : get_or steps (2 * i) 0 < length names
+  pub changed : get_or steps (2 * i + 1) 0 < length names
+
+-- the wire of the row that entry i adds, and of the row that it changes
+abbrev pub added_wire : List ℕ → List ℕ → ℕ → ℕ
+added_wire names steps i = get_or names (get_or steps (2 * i) 0) 0
+
+abbrev pub changed_wire : List ℕ → List ℕ → ℕ → ℕ
+changed_wire names steps i = get_or names (get_or steps (2 * i + 1) 0) 0
 
 -- the first k additions of a room, each between indices that have names
 pub record Sent (names steps : List ℕ) (k : ℕ) : Type 0 where
@@ -37,7 +51,7 @@ abbrev pub step_room : ℕ → ℕ → ℕ
 step_room most n = 2 * (min most (n * n) + 1)
 
 -- rows that are the map needed for some closing map, n names, and steps
-pub record Sendable (m names room : List ℕ) (most : ℕ) : Type 0 where
+pub record Sendable (m : List Parity) (names room : List ℕ) (most : ℕ) : Type 0 where
   pub few : length (rows_of m) ≤ max_columns
   pub named : length names ≡ length (rows_of m)
   pub wired : Wired names
@@ -54,7 +68,7 @@ pub record Sends (o : Option (List Step)) (names : List ℕ) (out : List ℤ) (b
   pub lost : o ≡ none → within ≡ false
 
 -- three matrices of n rows
-pub record Matrices (from to spare : List ℕ) : Type 0 where
+pub record Matrices (from to spare : List Parity) : Type 0 where
   pub few : length (rows_of to) ≤ max_columns
   pub held : length from ≡ length to
   pub right : length spare ≡ length to
@@ -65,7 +79,7 @@ abbrev pub needed_rows : Option (List ℕ) → List ℕ → Option (List ℕ)
 needed_rows inv to = and_then inv (λ m. some (map (λ v. times v zero m) to))
 
 -- three matrices, n names, and steps for what n rows can take
-pub record Rooms (from to spare names room : List ℕ) (most : ℕ) : Type 0 where
+pub record Rooms (from to spare : List Parity) (names room : List ℕ) (most : ℕ) : Type 0 where
   pub matrices : Matrices from to spare
   pub named : length names ≡ length (rows_of to)
   pub wired : Wired names

@@ -1,12 +1,11 @@
 -- The rooms of an accepted list: what the scan is lent, and what is left in them.
 use mathlib.Core.Path.{◌≡◌, refl, sym, ap, ◌∙◌}
-use mathlib.Core.List.{List, [], ◌∷◌, ◌++◌, append-nil}
+use mathlib.Core.List.{List, [], ◌∷◌, ◌++◌}
 use Prim.Native.Nat.{ℕ, zero, suc, ◌-◌, ◌*◌, ◌≤◌}
 use native.Mathlib.Omega.{arith}
-use borrow.Rule.Slice.PartMut.{put_mid, post_of, mid_of}
 use lib.IntN.{ℤ, pos}
-use lib.ListN.{length, get_or, take, drop, replicate, length-drop, length-append, length-replicate}
-use lib.Seq.{length-take-le, drop-length}
+use lib.ListN.{length, get_or, take, drop, replicate, length-append, length-replicate}
+use lib.Seq.{length-take-le}
 use Rattle.rules.specs.Limits.{width, max_gates, max_wires, max_columns, term_width, step_width, term_entries, step_entries}
 use Rattle.rules.specs.Gate.{Gate}
 use Rattle.rules.specs.Numbers.{gates_of, numbers_of}
@@ -70,9 +69,6 @@ module _ (write : Writer) (p : Plan) (w : ℕ) (l out : List ℤ) (terms steps :
 
   few : s.gates ≤ gates_in l
   few = omega (arith, scan.gates, output-length write p (gates_of l), gates-length l)
-
-  pub low : s.gates ≤ max_gates
-  low = omega (arith, few, fit.checked.few)
 
   pub shorter : length out₁ ≡ length out → width * s.gates ≤ length out₁
   shorter e = omega (arith, few, fit.out-fits)

@@ -11,12 +11,14 @@ use native.Mathlib.Nat.{not-suc-le-zero, le_of_suc-le-suc, pow-suc, mul_assoc}
 use native.Mathlib.Numerals.{add-one}
 use native.Mathlib.Omega.{arith}
 use lib.ListN.{length, get_or, set, take, replicate, length-set, length-replicate}
-use lib.Seq.{length-take-le}
+use Rattle.std.proofs.lemmas.List.{take-replicate}
 use Rattle.rules.specs.Bit.{◌⊕◌, bit, xor}
 use Rattle.rules.specs.Fold.{Term}
 use Rattle.rules.proofs.Bits.{split, bit-zero, bit_xor}
 use Rattle.terms.specs.Terms.{no_term}
-use Rattle.rows.specs.Rows.{by_two, rows_of}
+use Rattle.parity.specs.declared.Parity.{Parity}
+use Rattle.parity.specs.View.{val}
+use Rattle.rows.specs.Rows.{rows_of}
 use Rattle.rows.proofs.Room.{row_count}
 use Rattle.column.specs.Planes.{one, tally}
 use Rattle.column.proofs.Scanning.{with, with-next, with-le}
@@ -90,20 +92,15 @@ some-plane n (suc k) p l = omega arith
 
 -- ---- planes that are clear
 
-zeros : (c m k : ℕ) → tally false c (rows_of (take k (replicate m 0))) ≡ 0
-unfolding tally rows_of by_two
-zeros c m zero = refl
-zeros c zero (suc k) = refl
-zeros c (suc zero) (suc zero) = refl
-zeros c (suc zero) (suc (suc k)) = refl
-zeros c (suc (suc m)) (suc zero) = refl
-zeros c (suc (suc m)) (suc (suc k)) = rw (bit-zero c, zeros c m k)
+module _ (z : Parity) (e : val z ≡ 0) where
+  zeros : (c m : ℕ) → tally false c (rows_of (replicate m z)) ≡ 0
+  unfolding tally
+  zeros c zero = refl
+  zeros c (suc m) = rw (e, bit-zero c, zeros c m)
 
-pub clear-planes : (n d m : ℕ) → n < 2 ^ d → 2 * d ≤ m → (n < 2 ^ length (rows_of (take (2 * d) (replicate m 0)))) × ((c : ℕ) → tally false c (rows_of (take (2 * d) (replicate m 0))) ≡ 0)
-clear-planes n d m l h = (rw many l, λ c. zeros c m (2 * d))
-  where
-    many : length (rows_of (take (2 * d) (replicate m 0))) ≡ d
-    many = let r = row_count (take (2 * d) (replicate m 0)) in let t = length-take-le {A = ℕ} (2 * d) (replicate m 0) (rw (length-replicate {A = ℕ} m 0) h) in omega arith
+  -- the first d of m planes
+  pub clear-planes : (n d m : ℕ) → n < 2 ^ d → d ≤ m → (n < 2 ^ length (rows_of (take d (replicate m z)))) × ((c : ℕ) → tally false c (rows_of (take d (replicate m z))) ≡ 0)
+  clear-planes n d m l h = rw (take-replicate d m z h) (rw (row_count (replicate d z), length-replicate d z) l, λ c. zeros c d)
 
 -- ---- the pass over the set
 

@@ -34,15 +34,11 @@ pub struct Surveyed {
 pub fn seen(set: &[u64], cands: Parity) -> Parity
     ensures { (i : ℕ) → bit (val result) i ≡ (bit (val cands) i && any i (terms_of set.now)) }
 {
-    let count = set.len() / 3;
     let mut met = Parity::zero();
-    let mut i = 0;
-    while i < count {
-        let e = terms::get(set, i);
-        met = met.or(e.parity);
-        i += 1;
+    for i in 0..set.len() / 3 {
+        met = met | terms::get(set, i).parity;
     }
-    cands.and(met)
+    cands & met
 }
 
 // The candidates on which all parities agree, and those on which all but one do, by one pass: `some` and `two` have the columns of at least one
@@ -62,17 +58,15 @@ pub fn survey(set: &[u64], cands: Parity) -> Surveyed
     let mut two = Parity::zero();
     let mut every = cands;
     let mut most = cands;
-    let mut i = 0;
-    while i < count {
-        let e = terms::get(set, i);
-        two = two.or(some.and(e.parity));
-        some = some.or(e.parity);
-        most = every.or(most.and(e.parity));
-        every = every.and(e.parity);
-        i += 1;
+    for i in 0..count {
+        let p = terms::get(set, i).parity;
+        two = two | (some & p);
+        some = some | p;
+        most = every | (most & p);
+        every = every & p;
     }
-    let whole = every.or(cands.xor(cands.and(some)));
-    let near = most.xor(every).or(cands.and(some.xor(two)));
+    let whole = every | (cands ^ (cands & some));
+    let near = (most ^ every) | (cands & (some ^ two));
     Surveyed { whole, near }
 }
 
@@ -81,44 +75,37 @@ pub fn count_ones(set: &[u64], column: u32) -> usize
     requires { column < 128 }
     ensures { result ≡ length (side true column (terms_of set.now)) }
 {
-    let count = set.len() / 3;
-    let mut sum: usize = 0;
-    let mut i = 0;
-    while i < count {
-        let e = terms::get(set, i);
-        sum += e.parity.has(column) as usize;
-        i += 1;
+    let mut sum = 0;
+    for i in 0..set.len() / 3 {
+        sum += terms::get(set, i).parity.has(column) as usize;
     }
     sum
 }
 
 // A parity is added to the counts of the planes from `from` up; what is carried out of the last.
-fn ripple(planes: &mut [u64], from: usize, p: Parity) -> Parity
+fn ripple(planes: &mut [Parity], from: usize, p: Parity) -> Parity
     requires { from ≤ length (rows_of planes.old) }
     ensures { (c : ℕ) → tally false c (rows_of planes.new) + 2 ^ length (rows_of planes.old) * one (val result) c ≡ tally false c (rows_of planes.old) + 2 ^ from * one (val p) c }
 {
-    let n = planes.len() / 2;
     let mut carry = p;
-    let mut k = from;
-    while k < n {
-        let x = rows::get(&*planes, k);
-        rows::put(&mut *planes, k, x.xor(carry));
-        carry = x.and(carry);
-        k += 1;
+    for k in from..planes.len() {
+        let x = planes[k];
+        planes[k] = x ^ carry;
+        carry = x & carry;
     }
     carry
 }
 
 // Two parities are added at once, which halves the carries.
-fn add(planes: &mut [u64], x: Parity, y: Parity) -> Parity
+fn add(planes: &mut [Parity], x: Parity, y: Parity) -> Parity
     requires { 0 < length (rows_of planes.old) }
     ensures { (c : ℕ) → tally false c (rows_of planes.new) + 2 ^ length (rows_of planes.old) * one (val result) c ≡ tally false c (rows_of planes.old) + (one (val x) c + one (val y) c) }
 {
-    let low = rows::get(&*planes, 0);
-    let apart = x.xor(y);
-    rows::put(&mut *planes, 0, low.xor(apart));
-    let both = x.and(y);
-    let carry = both.or(low.and(apart));
+    let low = planes[0];
+    let apart = x ^ y;
+    planes[0] = low ^ apart;
+    let both = x & y;
+    let carry = both | (low & apart);
     ripple(&mut *planes, 1, carry)
 }
 
@@ -127,26 +114,22 @@ fn parity_at(set: &[u64], i: usize) -> Parity
     ensures { val result ≡ (get_or (terms_of set.now) i no_term).parity }
 {
     if i < set.len() / 3 {
-        let e = terms::get(set, i);
-        e.parity
+        terms::get(set, i).parity
     } else {
         Parity::zero()
     }
 }
 
 // How many terms have each column, by one pass over the set.
-fn count_columns(set: &[u64], planes: &mut [u64])
+fn count_columns(set: &[u64], planes: &mut [Parity])
     requires set_len_bound { length (terms_of set.now) < 2 ^ length (rows_of planes.old) }
     requires by_index { (c : ℕ) → tally false c (rows_of planes.old) ≡ 0 }
     ensures { (c : ℕ) → tally false c (rows_of planes.new) ≡ length (side true c (terms_of set.now)) }
 {
-    let count = set.len() / 3;
-    let mut i = 0;
-    while i < count {
+    for i in (0..set.len() / 3).step_by(2) {
         let x = parity_at(set, i);
         let y = parity_at(set, i + 1);
         add(&mut *planes, x, y);
-        i += 2;
     }
 }
 
@@ -158,22 +141,19 @@ fn or_else(new: Parity, old: Parity) -> Parity
 }
 
 // The candidates whose count is the largest, digit by digit from the highest; with every digit exchanged, the smallest.
-fn sift(planes: &[u64], cands: Parity, flip: Parity) -> Parity
+fn sift(planes: &[Parity], cands: Parity, flip: Parity) -> Parity
     ensures { Sifted (val cands) (val flip) (rows_of planes.now) (val result) }
 {
     let mut left = cands;
-    let mut k = planes.len() / 2;
-    while k > 0 {
-        k -= 1;
-        let x = rows::get(planes, k);
-        let hit = left.and(flip.xor(x));
+    for k in (0..planes.len()).rev() {
+        let hit = left & (flip ^ planes[k]);
         left = or_else(hit, left);
     }
     left
 }
 
 // The highest of the candidates that most terms have, and the highest of those that fewest have: no other split can be further from even.
-fn ends(set: &[u64], cands: Parity, planes: &mut [u64]) -> Parity
+fn ends(set: &[u64], cands: Parity, planes: &mut [Parity]) -> Parity
     requires cands_nonzero { 0 < val cands }
     requires set_len_bound { length (terms_of set.now) < 2 ^ length (rows_of planes.old) }
     requires by_index { (c : ℕ) → tally false c (rows_of planes.old) ≡ 0 }
@@ -182,15 +162,14 @@ fn ends(set: &[u64], cands: Parity, planes: &mut [u64]) -> Parity
     count_columns(set, &mut *planes);
     let most = sift(&*planes, cands, Parity::zero());
     let least = sift(&*planes, cands, cands);
-    let high = Parity::single(most.highest());
-    high.or(Parity::single(least.highest()))
+    Parity::single(most.highest()) | Parity::single(least.highest())
 }
 
 // How many binary digits a number has.
 fn digits(n: usize) -> usize
     ensures { (n < 2 ^ result) × (result ≤ 64) }
 {
-    (64 - u64::leading_zeros(n as u64)) as usize
+    (usize::BITS - n.leading_zeros()) as usize
 }
 
 // How far a split is from even: the distance between twice the ones and the set's size.
@@ -199,14 +178,11 @@ fn distance(ones: usize, size: usize) -> usize
     ensures { result ≡ Distance.distance ones size }
 {
     let twice = 2 * ones;
-    if twice < size {
-        size - twice
-    } else {
-        twice - size
-    }
+    twice.abs_diff(size)
 }
 
 // The column whose split is further from even; on a tie the new one, which is the higher.
+// Stays: a derived order is no plainer, since the rule for a tie would hide in the order of the fields.
 fn further(old: Kept, new: Kept) -> Kept
     ensures { pair_of result ≡ cond (beats old.distance new.distance) (pair_of new) (pair_of old) }
 {
@@ -231,15 +207,8 @@ fn scan(set: &[u64], cands: Parity) -> u32
     let mut left = cands;
     while !left.is_zero() {
         let column = left.lowest();
-        let ones = count_ones(set, column);
-        let far = distance(ones, size);
-        kept = further(
-            kept,
-            Kept {
-                column,
-                distance: far,
-            },
-        );
+        let distance = distance(count_ones(set, column), size);
+        kept = further(kept, Kept { column, distance });
         left = left.clear_lowest();
     }
     kept.column
@@ -253,8 +222,8 @@ pub fn best_counted(set: &[u64], cands: Parity) -> u32
     if cands.is_zero() {
         return 0;
     }
-    let mut planes = [0u64; 128];
-    let end = 2 * digits(set.len() / 3);
+    let mut planes = [Parity::zero(); 64];
+    let end = digits(set.len() / 3);
     let left = ends(set, cands, &mut planes[..end]);
     scan(set, left)
 }

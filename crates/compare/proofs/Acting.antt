@@ -70,26 +70,26 @@ module _ (g : Gate) (held : List ℕ) (f : ℕ) where
 
 -- ---- what is noted of a gate's turns
 
-module _ (i : ℕ) (back : Bool) (s : Lanes) (odds : List ℕ) where
-  pub weighed-none : (ts : List Term) → ts ≡ [] → Notes i (backed back ts) s odds s odds
+module _ (i : ℕ) (back : Bool) (s : Lanes) where
+  pub weighed-none : (ts : List Term) → ts ≡ [] → Notes i (backed back ts) s s
   unfolding backed
-  weighed-none ts e = rw e (notes-none i s odds)
+  weighed-none ts e = rw e (notes-none i s)
 
-  pub weighed-one : (ts : List Term) (k p : ℕ) (f : Bool) (r : Lanes) (odds' : List ℕ) → ts ≡ rotated k p f ∷ []
-      → Notes i (term p (signed back (signed f k)) ∷ []) s odds r odds' → Notes i (backed back ts) s odds r odds'
+  pub weighed-one : (ts : List Term) (k p : ℕ) (f : Bool) (r : Lanes) → ts ≡ rotated k p f ∷ []
+      → Notes i (term p (signed back (signed f k)) ∷ []) s r → Notes i (backed back ts) s r
   unfolding backed
-  weighed-one ts k p f r odds' e h = rw e h
+  weighed-one ts k p f r e h = rw e h
 
-  pub weighed-three : (x y z : ℕ) (e f d : Bool) (one two three : Lanes) (o p q : List ℕ) → Notes i (term x (signed back (signed e 2)) ∷ []) s odds one o
-      → Notes i (term y (signed back (signed f 2)) ∷ []) one o two p → Notes i (term z (signed back (signed d 6)) ∷ []) two p three q → z ≡ xor x y → d ≡ (e ⊕ f)
-      → Notes i (backed back (rotated 2 x e ∷ rotated 2 y f ∷ rotated 6 (xor x y) (e ⊕ f) ∷ [])) s odds three q
+  pub weighed-three : (x y z : ℕ) (e f d : Bool) (one two three : Lanes) → Notes i (term x (signed back (signed e 2)) ∷ []) s one
+      → Notes i (term y (signed back (signed f 2)) ∷ []) one two → Notes i (term z (signed back (signed d 6)) ∷ []) two three → z ≡ xor x y → d ≡ (e ⊕ f)
+      → Notes i (backed back (rotated 2 x e ∷ rotated 2 y f ∷ rotated 6 (xor x y) (e ⊕ f) ∷ [])) s three
   unfolding backed
-  weighed-three x y z e f d one two three o p q f1 f2 f3 u v =
-      rw (← u, ← v) (notes-then i (term x (signed back (signed e 2)) ∷ []) (term y (signed back (signed f 2)) ∷ term z (signed back (signed d 6)) ∷ []) s one three odds o q f1
-      (notes-then i (term y (signed back (signed f 2)) ∷ []) (term z (signed back (signed d 6)) ∷ []) one two three o p q f2 f3))
+  weighed-three x y z e f d one two three f1 f2 f3 u v =
+      rw (← u, ← v) (notes-then i (term x (signed back (signed e 2)) ∷ []) (term y (signed back (signed f 2)) ∷ term z (signed back (signed d 6)) ∷ []) s one three f1
+      (notes-then i (term y (signed back (signed f 2)) ∷ []) (term z (signed back (signed d 6)) ∷ []) one two three f2 f3))
 
   -- of the parities and constants that were read
-  pub weighed-by : (ts : List Term) (px py x y : ℕ) (e f : Bool) (r : Lanes) (odds' : List ℕ) {pe pf : Bool}
+  pub weighed-by : (ts : List Term) (px py x y : ℕ) (e f : Bool) (r : Lanes) {pe pf : Bool}
       → ts ≡ rotated 2 px pe ∷ rotated 2 py pf ∷ rotated 6 (xor px py) (pe ⊕ pf) ∷ [] → x ≡ px → y ≡ py → e ≡ pe → f ≡ pf
-      → Notes i (backed back (rotated 2 x e ∷ rotated 2 y f ∷ rotated 6 (xor x y) (e ⊕ f) ∷ [])) s odds r odds' → Notes i (backed back ts) s odds r odds'
-  weighed-by ts px py x y e f r odds' h u v a b n = rw (h, ← u, ← v, ← a, ← b) n
+      → Notes i (backed back (rotated 2 x e ∷ rotated 2 y f ∷ rotated 6 (xor x y) (e ⊕ f) ∷ [])) s r → Notes i (backed back ts) s r
+  weighed-by ts px py x y e f r h u v a b n = rw (h, ← u, ← v, ← a, ← b) n

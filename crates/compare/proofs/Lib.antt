@@ -2,4 +2,3 @@ pub mod Acting
 pub mod Running
 pub mod Telling
 pub mod Saying
-pub mod Rooms

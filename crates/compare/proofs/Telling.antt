@@ -2,46 +2,39 @@
 use mathlib.Core.Path.{◌≡◌, refl, sym, ap, ap₂, ◌∙◌, subst}
 use mathlib.Core.Bool.{Bool, true, false}
 use mathlib.Core.List.{List, [], ◌∷◌, ◌++◌}
-use Prim.Native.Nat.{ℕ, zero, ◌-◌, ◌/◌, ◌%◌, ◌≤◌}
+use Prim.Native.Nat.{ℕ, zero, ◌-◌, ◌%◌, ◌≤◌}
 use native.Mathlib.Nat.{mod-mod}
 use lib.IntN.{ℤ}
-use lib.ListN.{length, replicate}
+use lib.ListN.{length}
 use Rattle.rules.specs.Limits.{max_columns}
 use Rattle.rules.specs.Meaning.{Op, flip, phase, cnot, cz, other}
 use Rattle.rules.specs.Fold.{Term, signed}
 use Rattle.rules.specs.Close.{units}
-use Rattle.parity.specs.View.{val}
+use Rattle.parity.specs.declared.Parity.{Parity}
 use Rattle.rows.specs.Rows.{rows_of}
 use Rattle.rows.proofs.Room.{row_count}
 use Rattle.acting.specs.Alike.{each}
 use Rattle.acting.specs.Table.{Table, begin, act, turns, turns_of, minus, apart, quiet}
-use Rattle.lanes.specs.Lanes.{Holds, Notes, settled_of, Settles}
+use Rattle.lanes.specs.Lanes.{None, Holds, Notes, settled_of, Settles}
 use Rattle.lanes.specs.declared.Lanes.{Lanes}
 use Rattle.lanes.proofs.Noting.{holds-none}
 use Rattle.lanes.proofs.Settling.{settled-quiet}
-use Rattle.compare.specs.View.{ops_of, backed, Fine, Passes, wire_test}
+use Rattle.compare.specs.View.{ops_of, backed, Passes, wire_test}
 use Rattle.compare.proofs.Acting.{table}
 use Rattle.compare.proofs.Running.{backed-append}
 
 -- ---- rooms of the same length
 
-pub rows-length : (a b : List ℕ) → length b ≡ length a → length (rows_of b) ≡ length (rows_of a)
-rows-length a b e = row_count b ∙ ap (λ (z : ℕ). z / 2) e ∙ sym (row_count a)
+pub rows-length : (a b : List Parity) → length b ≡ length a → length (rows_of b) ≡ length (rows_of a)
+rows-length a b e = row_count b ∙ e ∙ sym (row_count a)
 
-module _ (a b : List ℕ) (e : length b ≡ length a) where
-  pub fine-as : (l : List ℤ) → Fine l (length (rows_of a)) → Fine l (length (rows_of b))
-  fine-as l f = rw (rows-length a b e) f
+pub test-as : (a b : List Parity) → length b ≡ length a → (us vs : List ℤ) (i : ℕ) (r : Bool) → r ≡ wire_test (length (rows_of b)) us vs i → r ≡ wire_test (length (rows_of a)) us vs i
+test-as a b e us vs i r h = h ∙ ap (λ (z : ℕ). wire_test z us vs i) (rows-length a b e)
 
-  pub few-as : length (rows_of a) ≤ max_columns → length (rows_of b) ≤ max_columns
-  few-as h = rw (rows-length a b e) h
-
-  pub test-as : (us vs : List ℤ) (i : ℕ) (r : Bool) → r ≡ wire_test (length (rows_of b)) us vs i → r ≡ wire_test (length (rows_of a)) us vs i
-  test-as us vs i r h = h ∙ ap (λ (z : ℕ). wire_test z us vs i) (rows-length a b e)
-
-pub from-begin : (os : List Op) (i : ℕ) (back : Bool) (held : List ℕ) (f w : ℕ) (s : Lanes) (x : List ℕ) (b' : Table) (s' : Lanes) (x' : List ℕ)
-    → Passes os i back (table held f) s x b' s' x' → held ≡ units w zero → f ≡ zero → Passes os i back (begin w) s x b' s' x'
+pub from-begin : (os : List Op) (i : ℕ) (back : Bool) (held : List ℕ) (f w : ℕ) (s : Lanes) (b' : Table) (s' : Lanes)
+    → Passes os i back (table held f) s b' s' → held ≡ units w zero → f ≡ zero → Passes os i back (begin w) s b' s'
 unfolding begin
-from-begin os i back held f w s x b' s' x' h e g = subst (λ (b : Table). Passes os i back b s x b' s' x') (ap₂ table e g) h
+from-begin os i back held f w s b' s' h e g = subst (λ (b : Table). Passes os i back b s b' s') (ap₂ table e g) h
 
 -- ---- turns as they are, and negated
 
@@ -70,14 +63,14 @@ backed-minus (t ∷ ts) = ap (λ (l : List Term). record { parity = t.parity; tu
 
 -- ---- one wire
 
-pub wire-told : (w w' n i : ℕ) (us vs : List ℤ) (a b c : Lanes) (x y z : List ℕ) (m : ℕ) (r : Bool) → (a.turn ≡ 0) × (val a.low ≡ 0) × (val a.high ≡ 0)
-    → x ≡ replicate m 0 → Notes i (backed false (turns_of (ops_of us) (begin w))) a x b y → Notes i (backed true (turns_of (ops_of vs) (begin w'))) b y c z → w' ≡ w → n ≡ w
-    → Settles i n c z r → r ≡ wire_test w us vs i
+pub wire-told : (w w' n i : ℕ) (us vs : List ℤ) (a b c : Lanes) (r : Bool) → None a
+    → Notes i (backed false (turns_of (ops_of us) (begin w))) a b → Notes i (backed true (turns_of (ops_of vs) (begin w'))) b c → w' ≡ w → n ≡ w
+    → Settles i n c r → r ≡ wire_test w us vs i
 unfolding wire_test apart
-wire-told w w' n i us vs a b c x y z m r h ex f g ew en t =
-    let first : Holds i (turns_of (ops_of us) (begin w)) b y =
-    rw (backed-same (ops_of us) (begin w)) at (f.holds [] (holds-none i m a x h.0 h.1 h.2 ex)) in
-    let second : Holds i (turns_of (ops_of us) (begin w) ++ minus (turns_of (ops_of vs) (begin w))) c z =
+wire-told w w' n i us vs a b c r h f g ew en t =
+    let first : Holds i (turns_of (ops_of us) (begin w)) b =
+    rw (backed-same (ops_of us) (begin w)) at (f.holds [] (holds-none i a h)) in
+    let second : Holds i (turns_of (ops_of us) (begin w) ++ minus (turns_of (ops_of vs) (begin w))) c =
     rw (ew, backed-minus (turns_of (ops_of vs) (begin w))) at (g.holds (turns_of (ops_of us) (begin w)) first) in
     t.tells (turns_of (ops_of us) (begin w) ++ minus (turns_of (ops_of vs) (begin w))) second ∙ ap (λ (z : ℕ). settled_of i z (turns_of (ops_of us) (begin w) ++ minus (turns_of (ops_of vs) (begin w)))) en
 

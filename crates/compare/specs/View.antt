@@ -15,7 +15,7 @@ use Rattle.lanes.specs.Lanes.{Notes, settled_of}
 use Rattle.lanes.specs.declared.Lanes.{Lanes}
 
 -- rows and constants, in a room and a parity
-abbrev pub table_at : Parity → List ℕ → Table
+abbrev pub table_at : Parity → List Parity → Table
 table_at flips rows = record { held = rows_of rows; flips = val flips }
 
 -- how the gates of a list act
@@ -33,13 +33,8 @@ unfoldable pub backed : Bool → List Term → List Term
 backed b [] = []
 backed b (t ∷ ts) = record { parity = t.parity; turn = signed b t.turn } ∷ backed b ts
 
--- a wire that a parity may have, and a row for each second wire of its word
-pub record Lane (i : ℕ) (odds : List ℕ) : Type 0 where
-  pub wire : i < max_columns
-  pub size : length odds ≡ 128
-
 -- a gate of the fragment whose wires have rows
-pub record Ready (g : Gate) (rows : List ℕ) : Type 0 where
+pub record Ready (g : Gate) (rows : List Parity) : Type 0 where
   pub wired : Wired g (rows_of rows)
   pub least : 1 ≤ g.code
   pub most : g.code ≤ last_fragment
@@ -51,9 +46,9 @@ pub record Fine (l : List ℤ) (w : ℕ) : Type 0 where
   pub plain : (i : ℕ) → i < length l / width → (gate_at l i).code ≤ last_fragment
 
 -- from one table and one wire's sums to others, by some operations
-pub record Passes (os : List Op) (i : ℕ) (back : Bool) (b : Table) (s : Lanes) (odds : List ℕ) (b' : Table) (s' : Lanes) (odds' : List ℕ) : Type 0 where
+pub record Passes (os : List Op) (i : ℕ) (back : Bool) (b : Table) (s : Lanes) (b' : Table) (s' : Lanes) : Type 0 where
   pub table : b' ≡ table_of os b
-  pub sums : Notes i (backed back (turns_of os b)) s odds s' odds'
+  pub sums : Notes i (backed back (turns_of os b)) s s'
 
 -- the test of one wire's sums, of two lists on w wires
 unfoldable pub wire_test : ℕ → List ℤ → List ℤ → ℕ → Bool

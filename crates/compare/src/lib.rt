@@ -14,7 +14,7 @@ ghost use Rattle.acting.specs.Alike as Question;
 ghost use Rattle.acting.specs.Answer.{verdict_of};
 ghost use Rattle.acting.specs.Table as Table;
 ghost use Rattle.lanes.specs.Lanes.{term, Notes};
-ghost use Rattle.compare.specs.View.{table_at, ops_of, backed, Lane, Ready, Fine, Passes, wire_test};
+ghost use Rattle.compare.specs.View.{table_at, ops_of, backed, Ready, Fine, Passes, wire_test};
 
 use acting::Verdict;
 use gate::Gate;
@@ -22,181 +22,158 @@ use lanes::Lanes;
 use parity::Parity;
 use rules::{CODE_CNOT, CODE_CZ, CODE_X, GATE_WIDTH, MAX_COLUMNS};
 
-// Words for as many rows as a parity has columns, and for those of one word's wires.
-const ROWS_ROOM: usize = 2 * MAX_COLUMNS;
-
-const ODDS_ROOM: usize = 2 * lanes::ROWS;
-
-// What a list ends with: the constants, and the sums of one wire.
-#[derive(Clone, Copy)]
-pub struct Ran {
-    pub flips: Parity,
-    pub sums: Lanes,
-}
-
-// x and cnot change the rows and the constants.
-fn act(g: Gate, flips: Parity, rows: &mut [u64]) -> Parity
+// x and cnot change the rows and the constants; what the constants are then.
+// Stays: beside the block's folds, which go by local indices; here each wire has its own row, and none joins.
+fn act(g: Gate, flips: Parity, rows: &mut [Parity]) -> Parity
     requires { Ready g rows.old }
     ensures { table_at result rows.new ≡ Table.act (op (gate_of g)) (table_at flips rows.old) }
 {
-    let code = g.code;
-    if code == CODE_X {
-        return flips.xor(Parity::single(g.first));
+    match g.code {
+        CODE_X => flips ^ Parity::single(g.first),
+        CODE_CNOT => {
+            rows::add(rows, g.first as usize, g.second as usize);
+            flips ^ Parity::single(g.second).kept(flips.has(g.first))
+        }
+        _ => flips,
     }
-    if code == CODE_CNOT {
-        rows::add(rows, g.first as usize, g.second as usize);
-        return flips.xor(Parity::single(g.second).kept(flips.has(g.first)));
+}
+
+// A turn on a parity, negated by the wire's constant, and once more for the second list.
+fn rotate(s: &mut Lanes, p: Parity, flipped: bool, k: u8, i: u32, back: bool)
+    requires { i < max_columns }
+    ensures { Notes i (term (val p) (signed back (signed flipped k)) ∷ []) s.old s.new }
+{
+    let turned = turn::signed(back, turn::signed(flipped, k));
+    s.note(p, turned, i);
+}
+
+// cz is three turns: by 2 on each wire's parity, by 6 on their sum.
+fn weigh_cz(s: &mut Lanes, x: Parity, xs: bool, y: Parity, ys: bool, i: u32, back: bool)
+    requires { i < max_columns }
+    ensures { Notes i (backed back (Table.rotated 2 (val x) xs ∷ Table.rotated 2 (val y) ys ∷ Table.rotated 6 (xor (val x) (val y)) (xs ⊕ ys) ∷ [])) s.old s.new }
+{
+    rotate(&mut *s, x, xs, 2, i, back);
+    rotate(&mut *s, y, ys, 2, i, back);
+    rotate(&mut *s, x ^ y, xs != ys, 6, i, back);
+}
+
+// Rotations and cz add turns.
+fn weigh(g: Gate, flips: Parity, rows: &[Parity], s: &mut Lanes, i: u32, back: bool)
+    requires ready { Ready g rows.now }
+    requires wire { i < max_columns }
+    ensures { Notes i (backed back (Table.turns (op (gate_of g)) (table_at flips rows.now))) s.old s.new }
+{
+    match g.code {
+        CODE_X | CODE_CNOT => {}
+        CODE_CZ => {
+            let x = rows[g.first as usize];
+            let y = rows[g.second as usize];
+            weigh_cz(s, x, flips.has(g.first), y, flips.has(g.second), i, back)
+        }
+        code => {
+            let x = rows[g.first as usize];
+            rotate(
+                s,
+                x,
+                flips.has(g.first),
+                absorb::turn_of(code, g.turn),
+                i,
+                back,
+            )
+        }
+    }
+}
+
+fn step(g: Gate, flips: Parity, rows: &mut [Parity], s: &mut Lanes, i: u32, back: bool) -> Parity
+    requires ready { Ready g rows.old }
+    requires wire { i < max_columns }
+    ensures { Passes (op (gate_of g) ∷ []) i back (table_at flips rows.old) s.old (table_at result rows.new) s.new }
+{
+    weigh(g, flips, &*rows, s, i, back);
+    act(g, flips, rows)
+}
+
+// All gates of a list; what the constants are behind them.
+fn run_from(
+    list: &[i32],
+    start: Parity,
+    rows: &mut [Parity],
+    s: &mut Lanes,
+    i: u32,
+    back: bool,
+) -> Parity
+    requires fine { Fine list.now (length (rows_of rows.old)) }
+    requires few { length (rows_of rows.old) ≤ max_columns }
+    requires wire { i < max_columns }
+    ensures { Passes (ops_of list.now) i back (table_at start rows.old) s.old (table_at result rows.new) s.new }
+{
+    let n = list.len() / GATE_WIDTH;
+    let mut flips = start;
+    for k in 0..n {
+        flips = step(gate::read(list, k), flips, &mut *rows, &mut *s, i, back);
     }
     flips
 }
 
-// A turn on a parity, negated by the wire's constant, and once more for the second list.
-fn rotate(s: Lanes, p: Parity, flipped: bool, k: u8, i: u32, back: bool, odds: &mut [u64]) -> Lanes
-    requires { Lane i odds.old }
-    ensures { Notes i (term (val p) (signed back (signed flipped k)) ∷ []) s odds.old result odds.new }
-{
-    let turned = turn::signed(back, turn::signed(flipped, k));
-    lanes::note(s, p, turned, i, odds)
-}
-
-// cz is three turns: by 2 on each wire's parity, by 6 on their sum.
-fn weigh_cz(
-    s: Lanes,
-    x: Parity,
-    xs: bool,
-    y: Parity,
-    ys: bool,
-    i: u32,
-    back: bool,
-    odds: &mut [u64],
-) -> Lanes
-    requires { Lane i odds.old }
-    ensures { Notes i (backed back (Table.rotated 2 (val x) xs ∷ Table.rotated 2 (val y) ys ∷ Table.rotated 6 (xor (val x) (val y)) (xs ⊕ ys) ∷ [])) s odds.old result odds.new }
-{
-    let one = rotate(s, x, xs, 2, i, back, &mut *odds);
-    let two = rotate(one, y, ys, 2, i, back, &mut *odds);
-    rotate(two, x.xor(y), xs != ys, 6, i, back, &mut *odds)
-}
-
-// Rotations and cz add turns.
-fn weigh(
-    g: Gate,
-    flips: Parity,
-    rows: &[u64],
-    s: Lanes,
-    i: u32,
-    back: bool,
-    odds: &mut [u64],
-) -> Lanes
-    requires ready { Ready g rows.now }
-    requires lane { Lane i odds.old }
-    ensures { Notes i (backed back (Table.turns (op (gate_of g)) (table_at flips rows.now))) s odds.old result odds.new }
-{
-    let code = g.code;
-    if code == CODE_X {
-        return s;
-    }
-    if code == CODE_CNOT {
-        return s;
-    }
-    let x = rows::get(rows, g.first as usize);
-    let xs = flips.has(g.first);
-    if code == CODE_CZ {
-        let y = rows::get(rows, g.second as usize);
-        return weigh_cz(s, x, xs, y, flips.has(g.second), i, back, odds);
-    }
-    rotate(s, x, xs, absorb::turn_of(code, g.turn), i, back, odds)
-}
-
-fn step(g: Gate, r: Ran, rows: &mut [u64], i: u32, back: bool, odds: &mut [u64]) -> Ran
-    requires ready { Ready g rows.old }
-    requires lane { Lane i odds.old }
-    ensures { Passes (op (gate_of g) ∷ []) i back (table_at r.flips rows.old) r.sums odds.old (table_at result.flips rows.new) result.sums odds.new }
-{
-    let old = r.flips;
-    let before = r.sums;
-    let sums = weigh(g, old, &*rows, before, i, back, odds);
-    let flips = act(g, old, rows);
-    Ran { flips, sums }
-}
-
-// All gates of a list.
-fn run_from(list: &[i32], start: Ran, rows: &mut [u64], i: u32, back: bool, odds: &mut [u64]) -> Ran
-    requires fine { Fine list.now (length (rows_of rows.old)) }
-    requires rows_len_bound { (length (rows_of rows.old) ≤ max_columns) × Lane i odds.old }
-    ensures { Passes (ops_of list.now) i back (table_at start.flips rows.old) start.sums odds.old (table_at result.flips rows.new) result.sums odds.new }
-{
-    let n = list.len() / GATE_WIDTH;
-    let mut r = start;
-    for k in 0..n {
-        r = step(gate::read(list, k), r, &mut *rows, i, back, &mut *odds);
-    }
-    r
-}
-
 // The same from wires that each have their own value.
-fn run(list: &[i32], s: Lanes, rows: &mut [u64], i: u32, back: bool, odds: &mut [u64]) -> Ran
+fn run(list: &[i32], rows: &mut [Parity], s: &mut Lanes, i: u32, back: bool) -> Parity
     requires fine { Fine list.now (length (rows_of rows.old)) }
-    requires rows_len_bound { (length (rows_of rows.old) ≤ max_columns) × Lane i odds.old }
-    ensures { Passes (ops_of list.now) i back (Table.begin (length (rows_of rows.old))) s odds.old (table_at result.flips rows.new) result.sums odds.new }
+    requires few { length (rows_of rows.old) ≤ max_columns }
+    requires wire { i < max_columns }
+    ensures { Passes (ops_of list.now) i back (Table.begin (length (rows_of rows.old))) s.old (table_at result rows.new) s.new }
 {
     rows::set_units(&mut *rows);
-    let start = Ran {
-        flips: Parity::zero(),
-        sums: s,
-    };
-    run_from(list, start, rows, i, back, odds)
+    run_from(list, Parity::zero(), rows, s, i, back)
 }
 
 // One wire with all others: the turns of the first list and, negated, of the second.
-fn wire(us: &[i32], vs: &[i32], rows: &mut [u64], i: u32, odds: &mut [u64]) -> bool
+fn wire(us: &[i32], vs: &[i32], rows: &mut [Parity], i: u32) -> bool
     requires fine { Fine us.now (length (rows_of rows.old)) }
     requires fine_2 { Fine vs.now (length (rows_of rows.old)) }
-    requires rows_len_bound { (length (rows_of rows.old) ≤ max_columns) × Lane i odds.old }
+    requires few { length (rows_of rows.old) ≤ max_columns }
+    requires wire { i < max_columns }
     ensures { result ≡ wire_test (length (rows_of rows.old)) us.now vs.now i }
 {
-    let n = rows.len() / 2;
-    clear::words(&mut *odds);
-    let one = run(us, lanes::none(), &mut *rows, i, false, &mut *odds);
-    let sums = one.sums;
-    let two = run(vs, sums, &mut *rows, i, true, &mut *odds);
-    let last = two.sums;
-    lanes::settled(last, i, n as u32, &*odds)
+    let n = rows.len();
+    let mut sums = Lanes::none();
+    run(us, &mut *rows, &mut sums, i, false);
+    run(vs, &mut *rows, &mut sums, i, true);
+    sums.settled(i, n as u32)
 }
 
-fn quiet(us: &[i32], vs: &[i32], rows: &mut [u64], odds: &mut [u64]) -> bool
+fn quiet(us: &[i32], vs: &[i32], rows: &mut [Parity]) -> bool
     requires fine { Fine us.now (length (rows_of rows.old)) }
     requires fine_2 { Fine vs.now (length (rows_of rows.old)) }
-    requires rows_len_bound { (length (rows_of rows.old) ≤ max_columns) × Lane 0 odds.old }
+    requires few { length (rows_of rows.old) ≤ max_columns }
     ensures { result ≡ Table.quiet (length (rows_of rows.old)) (Table.apart (length (rows_of rows.old)) (ops_of us.now) (ops_of vs.now)) }
 {
-    let n = rows.len() / 2;
+    let n = rows.len();
     for i in 0..n {
-        if !wire(us, vs, &mut *rows, i as u32, &mut *odds) {
+        if !wire(us, vs, &mut *rows, i as u32) {
             return false;
         }
     }
     true
 }
 
-// The same in rooms for the rows of both and for the sums.
-fn compare_in(us: &[i32], vs: &[i32], a: &mut [u64], b: &mut [u64], odds: &mut [u64]) -> Verdict
+// The same in rooms for the rows of both.
+fn compare_in(us: &[i32], vs: &[i32], a: &mut [Parity], b: &mut [Parity]) -> Verdict
     requires fine { Fine us.now (length (rows_of a.old)) }
     requires fine_2 { Fine vs.now (length (rows_of a.old)) }
-    requires a_len_bound { (length (rows_of a.old) ≤ max_columns) × ((length b.old ≡ length a.old) × Lane 0 odds.old) }
+    requires few { length (rows_of a.old) ≤ max_columns }
+    requires same { length b.old ≡ length a.old }
     ensures { verdict_of result ≡ Question.verdict (length (rows_of a.old)) (ops_of us.now) (ops_of vs.now) }
 {
-    let u = run(us, lanes::none(), &mut *a, 0, false, &mut *odds);
-    let v = run(vs, lanes::none(), &mut *b, 0, false, &mut *odds);
-    let f = u.flips;
-    let g = v.flips;
+    let mut sums = Lanes::none();
+    let f = run(us, &mut *a, &mut sums, 0, false);
+    let g = run(vs, &mut *b, &mut sums, 0, false);
     if !rows::equal(&*a, &*b) {
         return Verdict::Map;
     }
-    if !f.same(g) {
+    if f != g {
         return Verdict::Flips;
     }
-    if quiet(us, vs, &mut *a, &mut *odds) {
+    if quiet(us, vs, &mut *a) {
         Verdict::Same
     } else {
         Verdict::Phase
@@ -210,9 +187,7 @@ pub fn compare(us: &[i32], vs: &[i32], wires: usize) -> Verdict
     requires wires_le_max_columns { wires ≤ max_columns }
     ensures { verdict_of result ≡ Question.verdict wires (ops_of us.now) (ops_of vs.now) }
 {
-    let mut a = [0u64; ROWS_ROOM];
-    let mut b = [0u64; ROWS_ROOM];
-    let mut odds = [0u64; ODDS_ROOM];
-    let end = 2 * wires;
-    compare_in(us, vs, &mut a[..end], &mut b[..end], &mut odds)
+    let mut a = [Parity::zero(); MAX_COLUMNS];
+    let mut b = [Parity::zero(); MAX_COLUMNS];
+    compare_in(us, vs, &mut a[..wires], &mut b[..wires])
 }

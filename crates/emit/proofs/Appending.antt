@@ -16,6 +16,8 @@ use Rattle.rules.proofs.Bits.{split, and_left, and_right}
 use Rattle.rules.proofs.Passing.{twos-append}
 use Rattle.gate.specs.Writing.{placed}
 use Rattle.gate.proofs.Placing.{length-placed, next-placed}
+use Rattle.budget.specs.View.{Push}
+use Rattle.budget.proofs.Counting.{counts-push}
 use Rattle.emit.specs.Emitted.{Holds, Ready, Passes, dear, long, Emits}
 
 -- counts only grow
@@ -117,3 +119,16 @@ module _ (out : List ℤ) (b : Budget) (g : Gate) (r : Ready out b) where
           split (leb (push g b).two b.max_two)
           (λ f. long (omega (arith, leb-false (push g b).all b.max_all (rw f at e), snoc gs g, h.all)))
           (λ f. dear (omega (arith, leb-false (push g b).two b.max_two f, two-snoc gs g, h.two)))
+
+  module _ {pair : Bool} {b' : Budget} (e : is_two g.code ≡ pair) where
+    -- counted by whether it is a CNOT or CZ, and within: it is written
+    pub emits-counted : Push pair b b' true → Emits (g ∷ []) out b (placed out b.all g) b' true
+    emits-counted p =
+        let c = counts-push g pair b e in
+        rw (p.budget, c) (emits-gate (sym (p.within ∙ ap within c)))
+
+    -- and past a ceiling: nothing is
+    pub emits-spent : Push pair b b' false → Emits (g ∷ []) out b out b' false
+    emits-spent p =
+        let c = counts-push g pair b e in
+        rw (p.budget, c) (emits-past (sym (p.within ∙ ap within c)))

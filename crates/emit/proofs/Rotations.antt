@@ -1,15 +1,15 @@
 -- A rotation is its first gate, and a t after it for turns 3 and 5.
-use mathlib.Core.Path.{◌≡◌, refl, sym, ◌∙◌, subst}
-use mathlib.Core.Bool.{Bool, true, false, ◌&&◌, ◌||◌, cond}
+use mathlib.Core.Path.{◌≡◌, refl}
+use mathlib.Core.Bool.{Bool, true, false, ◌||◌, cond}
 use mathlib.Core.List.{List, [], ◌∷◌}
 use Prim.Native.Nat.{ℕ, zero, suc, ◌<◌, ◌^◌}
 use native.Mathlib.Omega.{arith}
 use lib.IntN.{ℤ}
 use lib.Dec.{eqb, leb}
-use Rattle.rules.specs.Gate.{Gate, gate1, code_t}
+use Rattle.rules.specs.Gate.{gate1, code_t}
 use Rattle.rules.specs.Synth.{rotation}
 use Rattle.rules.specs.Budget.{Budget}
-use Rattle.rules.proofs.Bits.{split, and_left, and_right}
+use Rattle.rules.proofs.Bits.{split}
 use Rattle.emit.specs.Emitted.{Emits}
 use Rattle.emit.specs.Turns.{lead}
 use Rattle.emit.proofs.Appending.{emits_then, emits-stop}
@@ -50,19 +50,17 @@ lead-small k =
     (λ g. rw (e, f, g) (omega arith))
     (λ g. split (eqb k 6) (λ h. rw (e, f, g, h) (omega arith)) (λ h. rw (e, f, g, h) (omega arith)))))
 
-module _ (k q : ℕ) (p : 0 < k) (h : k < 8) {o o₁ : List ℤ} {b b₁ : Budget} {w : Bool} (one : Emits (gate1 (lead k) q ∷ []) o b o₁ b₁ w) where
-  -- its first gate, and the t
-  pub rotation-two : (w && double k) ≡ true → {o₂ : List ℤ} {b₂ : Budget} {v : Bool} → Emits (gate1 code_t q ∷ []) o₁ b₁ o₂ b₂ v → Emits (rotation k q) o b o₂ b₂ v
-  rotation-two t {o₂} {b₂} {v} two =
-      let e : rotation k q ≡ gate1 (lead k) q ∷ gate1 code_t q ∷ [] = rotation-is k q p h ∙ rw (and_right w (double k) t) in
-      subst (λ (l : List Gate). Emits l o b o₂ b₂ v) (sym e) (emits_then (subst (Emits (gate1 (lead k) q ∷ []) o b o₁ b₁) (and_left w (double k) t) one) two)
+module _ (k q : ℕ) (p : 0 < k) (h : k < 8) {o o₁ : List ℤ} {b b₁ : Budget} where
+  module _ (one : Emits (gate1 (lead k) q ∷ []) o b o₁ b₁ true) where
+    -- its first gate, and the t
+    pub rotation-two : double k ≡ true → {o₂ : List ℤ} {b₂ : Budget} {v : Bool} → Emits (gate1 code_t q ∷ []) o₁ b₁ o₂ b₂ v → Emits (rotation k q) o b o₂ b₂ v
+    rotation-two t two = rw (rotation-is k q p h, t) (emits_then one two)
 
-  -- it is one gate, or the budget was spent by the first
-  pub rotation-one : (w && double k) ≡ false → Emits (rotation k q) o b o₁ b₁ w
-  rotation-one t =
-      let e = rotation-is k q p h in
-      split w
-      (λ f. let d : double k ≡ false = rw f at t in subst (λ (l : List Gate). Emits l o b o₁ b₁ w) (sym (e ∙ rw d)) one)
-      (λ f. subst (λ (l : List Gate). Emits l o b o₁ b₁ w) (sym e)
-      (subst (Emits (gate1 (lead k) q ∷ cond (double k) (gate1 code_t q ∷ []) []) o b o₁ b₁) (sym f)
-      (emits-stop (gate1 (lead k) q ∷ []) (cond (double k) (gate1 code_t q ∷ []) []) o o₁ b b₁ (subst (Emits (gate1 (lead k) q ∷ []) o b o₁ b₁) f one))))
+    -- it is one gate
+    pub rotation-one : double k ≡ false → Emits (rotation k q) o b o₁ b₁ true
+    rotation-one t = rw (rotation-is k q p h, t) one
+
+  -- the budget was spent by its first gate
+  pub rotation-spent : Emits (gate1 (lead k) q ∷ []) o b o₁ b₁ false → Emits (rotation k q) o b o₁ b₁ false
+  rotation-spent one =
+      rw (rotation-is k q p h) (emits-stop (gate1 (lead k) q ∷ []) (cond (double k) (gate1 code_t q ∷ []) []) o o₁ b b₁ one)

@@ -1,5 +1,5 @@
 -- 13, or the laboratories' text, by the first gate that isn't spelled.
-use mathlib.Core.Path.{◌≡◌}
+use mathlib.Core.Path.{◌≡◌, sym, ap, ◌∙◌}
 use mathlib.Core.List.{List}
 use Prim.Native.Nat.{ℕ, zero, suc, ◌+◌, ◌/◌, ◌≤◌, ◌<◌}
 use native.Mathlib.Omega.{arith}
@@ -10,10 +10,18 @@ use Rattle.rules.specs.Limits.{width}
 use Rattle.rules.specs.Numbers.{nat_of, field}
 use Rattle.rules.proofs.Bits.{split}
 use Rattle.spelling.specs.Texts.{Head}
-use Rattle.saying.specs.Answer.{answered, refusal}
+use Rattle.rules.specs.Refusal.{accepted, refused}
+use Rattle.rules.proofs.Accepting.{place_of}
+use Rattle.gate.specs.declared.Refusal.{Refusal}
+use Rattle.gate.specs.Verdicts.{refusal_of}
+use Rattle.saying.specs.Answer.{answered, refusal, exact, judged}
+use Rattle.saying.specs.declared.Reason.TheVariants.{Unspelled as Unsaid, List as OfList}
+use Rattle.saying.specs.Clauses.{Few}
+use Rattle.saying.proofs.Checking.{exact-place, exact-fits}
 use Rattle.qasm.specs.Table.{spelled}
 use Rattle.qasm.specs.Export.{qasm_text, unspelled_from, unspelled}
 use Rattle.export.specs.Answer.{translated}
+use Rattle.export.specs.Clauses.{Spelled, Unspelled}
 
 from-most : (l : List ℤ) (n i : ℕ) → unspelled_from l n i ≤ i + n
 unfolding unspelled_from
@@ -31,3 +39,15 @@ not-spelled h l k = rw (lt-ltb (unspelled l) (length l / width) k)
 pub all-spelled : (h : Head) (l : List ℤ) → length l / width ≤ unspelled l → translated h l ≡ answered (qasm_text h.wires h.bits l)
 unfolding translated
 all-spelled h l k = rw (le-ltb (unspelled l) (length l / width) k)
+
+-- ---- a list that was read
+
+module _ (h : Head) (l : List ℤ) (few : Few l) where
+  pub refused-list : (r : Refusal) → exact h l ≡ refused (refusal_of r) → Unspelled h l (OfList r)
+  refused-list r e = record { answer = ap (judged (translated h l)) e; small = omega (arith, ap place_of e, exact-place h l, few.few) }
+
+  pub unspelled-list : exact h l ≡ accepted → unspelled l < length l / width → Unspelled h l (Unsaid (unspelled l))
+  unspelled-list e k = record { answer = ap (judged (translated h l)) e ∙ not-spelled h l k; small = omega (arith, few.few) }
+
+  pub spelled-list : exact h l ≡ accepted → length l / width ≤ unspelled l → Spelled h l
+  spelled-list e k = let a = exact-fits h l e in record { sized = record { wires = a.wires; bits = a.bits }; answer = ap (judged (translated h l)) e ∙ all-spelled h l k }

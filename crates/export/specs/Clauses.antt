@@ -1,19 +1,35 @@
 -- What the crate's functions ask and say.
-use Rattle.std.specs.Prelude.{◌≡◌, false, List, ℕ, ◌≤◌, ℤ, take}
+use Rattle.std.specs.Prelude.{◌≡◌, false, List, ℕ, ◌^◌, ◌≤◌, ◌<◌, ℤ, take, Result, Ok, Err}
 use Rattle.rules.specs.Limits.{max_wires, max_bits}
 use Rattle.spelling.specs.Sizes.{list_gates}
 use Rattle.spelling.specs.Texts.{Head}
 use Rattle.spelling.specs.Reading.{read, read_text}
+use Rattle.saying.specs.Answer.{answered, checked}
+use Rattle.saying.specs.Reasons.{place_of, told}
+use Rattle.saying.specs.declared.Reason.{Reason}
 use Rattle.saying.specs.Clauses.{Says}
 use Rattle.saying.specs.declared.Said.{Said}
 use Rattle.qasm.specs.Import.{list, read_qasm}
-use Rattle.qasm.specs.Export.{relined}
-use Rattle.export.specs.Answer.{answer}
+use Rattle.qasm.specs.Export.{qasm_text, relined}
+use Rattle.export.specs.Answer.{translated, answer}
 
 -- wires and bits of an accepted list
 pub record Sized (h : Head) : Type 0 where
   pub wires : h.wires ≤ max_wires
   pub bits : h.bits ≤ max_bits
+
+-- an accepted list all of whose gates are spelled is translated; of any other the answer is the refusal
+pub record Spelled (h : Head) (numbers : List ℤ) : Type 0 where
+  pub sized : Sized h
+  pub answer : checked translated h numbers ≡ answered (qasm_text h.wires h.bits numbers)
+
+pub record Unspelled (h : Head) (numbers : List ℤ) (e : Reason) : Type 0 where
+  pub answer : checked translated h numbers ≡ told e
+  pub small : place_of e < 2 ^ 32
+
+abbrev pub Spells : Head → List ℤ → Result Unit Reason → Type 0
+Spells h numbers (Ok u) = Spelled h numbers
+Spells h numbers (Err e) = Unspelled h numbers e
 
 -- the list's text reads as a head and some gates' numbers; what is printed reads, as a laboratory's text, as the same wires, bits and gates, all but
 -- their sixth numbers: these are now the lines of the text that is printed

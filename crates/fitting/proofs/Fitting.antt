@@ -1,5 +1,6 @@
 -- From what the entry point says to the pass in rooms exactly as long as a list needs.
 use mathlib.Core.Path.{◌≡◌, refl, sym, ap, ◌∙◌}
+use Rattle.std.specs.Prelude.{Result as Answered, Ok, Err}
 use mathlib.Core.List.{List, ◌++◌, append_assoc}
 use Prim.Native.Nat.{ℕ, ◌-◌, ◌*◌, ◌/◌}
 use native.Mathlib.Omega.{arith}
@@ -15,15 +16,15 @@ use Rattle.rules.specs.Pass as Pass
 use Rattle.rules.specs.Pass.{pass, counts, over}
 use Rattle.rules.proofs.Reading.{length-numbers, gates-length}
 use Rattle.rules.proofs.Accepting.{place_of}
+use Rattle.gate.specs.declared.Refusal.{Refusal}
 use Rattle.gate.specs.Verdicts.{refusal_of}
 use Rattle.cnot_min.specs.Minimizing.{counted, Minimizes}
-use Rattle.cnot_min.specs.declared.Answer.{Answer}
-use Rattle.cnot_min.specs.declared.Answer.TheVariants.{Refused, Done}
+use Rattle.cnot_min.specs.declared.Counts.{Counts}
 use Rattle.spelling.specs.Texts.{Head}
 use Rattle.saying.specs.Answer.{exact}
 use Rattle.saying.specs.Clauses.{Few}
 use Rattle.saying.proofs.Checking.{exact-is, exact-place}
-use Rattle.fitting.specs.Clauses.{Fits}
+use Rattle.fitting.specs.Clauses.{Denied, Written, Fits}
 use Rattle.fitting.proofs.Few.{counts-small}
 
 after-at : (l : List ℤ) (w b q t : ℕ) (out : List ℤ) (terms steps : List ℕ) (v : Verdict) → verdict l w b (length out) (length terms) (length steps) ≡ v
@@ -59,16 +60,17 @@ module _ (h : Head) (l out : List ℤ) (terms steps : List ℕ) (out' : List ℤ
   after_is : Pass.after l h.wires h.bits h.qubits h.terms out terms steps ≡ Pass.after_as (exact h l) gs new out terms steps
   after_is = after-at l h.wires h.bits h.qubits h.terms out terms steps (exact h l) (rw (eo, et, es) (sym (exact-is h l)))
 
-  -- the rest of a longer room doesn't matter
-  pub fits : (a : Answer) (rest : List ℤ) → Minimizes l h.wires h.bits h.qubits h.terms out terms steps a out' terms' steps' → Fits h l a (out' ++ rest)
-  unfolding Pass.out_after
-  fits (Refused r) rest m =
+  fits-refused : (r : Refusal) → Minimizes l h.wires h.bits h.qubits h.terms out terms steps (Err r) out' terms' steps' → Denied exact h l r
+  fits-refused r m =
       let is : refused (refusal_of r) ≡ exact h l = ap as_verdict (m.answer ∙ ap (λ (x : Pass.After). x.answer) after_is) ∙ judged-as (exact h l) gs new out terms steps in
       record {
         is = sym is;
         place = omega (arith, ap place_of is, few.few, exact-place h l);
       }
-  fits (Done c) rest m =
+
+  pub fits-done : (c : Counts) → Minimizes l h.wires h.bits h.qubits h.terms out terms steps (Ok c) out' terms' steps' → Written exact h l c out'
+  unfolding Pass.out_after
+  fits-done c m =
       let is : accepted ≡ exact h l = ap as_verdict (m.answer ∙ ap (λ (x : Pass.After). x.answer) after_is) ∙ judged-as (exact h l) gs new out terms steps in
       let at : Pass.after l h.wires h.bits h.qubits h.terms out terms steps ≡ Pass.after_as accepted gs new out terms steps = after_is ∙ ap (λ (v : Verdict). Pass.after_as v gs new out terms steps) (sym is) in
       let same : counted c ≡ counts gs new = ap (counts_or (counted c)) (m.answer ∙ ap (λ (x : Pass.After). x.answer) at) in
@@ -78,11 +80,16 @@ module _ (h : Head) (l out : List ℤ) (terms steps : List ℕ) (out' : List ℤ
       let long : length (numbers_of new.gates) ≡ width * c.gatesout = length-numbers new.gates ∙ ap (λ (k : ℕ). width * k) (sym size) in
       record {
         is = sym is;
-        small = counts-small c h.qubits h.terms gs same (omega (arith, few.few, gates-length l));
-        fits =
-            omega (arith, long, length-append out' rest, ap length (room ∙ append_assoc (numbers_of new.gates) zeros (drop (length (numbers_of new.gates ++ zeros)) out)), length-append (numbers_of new.gates) (zeros ++ drop (length (numbers_of new.gates ++ zeros)) out));
-        numbers =
-            ap (λ (x : List ℤ). take (width * c.gatesout) (x ++ rest)) (room ∙ append_assoc (numbers_of new.gates) zeros _) ∙ ap (take (width * c.gatesout)) (append_assoc (numbers_of new.gates) _ rest)
-            ∙ take_at (numbers_of new.gates) _ (width * c.gatesout) long;
-        counts = same;
+        made = record {
+          is = sym is;
+          small = counts-small c h.qubits h.terms gs same (omega (arith, few.few, gates-length l));
+          fits =
+              omega (arith, long, ap length (room ∙ append_assoc (numbers_of new.gates) zeros (drop (length (numbers_of new.gates ++ zeros)) out)), length-append (numbers_of new.gates) (zeros ++ drop (length (numbers_of new.gates ++ zeros)) out));
+          numbers = ap (take (width * c.gatesout)) (room ∙ append_assoc (numbers_of new.gates) zeros _) ∙ take_at (numbers_of new.gates) _ (width * c.gatesout) long;
+          counts = same;
+        };
       }
+
+  pub fits : (a : Answered Counts Refusal) → Minimizes l h.wires h.bits h.qubits h.terms out terms steps a out' terms' steps' → Fits exact h l a out'
+  fits (Err r) m = fits-refused r m
+  fits (Ok c) m = fits-done c m

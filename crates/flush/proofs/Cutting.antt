@@ -31,23 +31,26 @@ use Rattle.block.specs.View.{rows_from, row_at, rows_at, terms_at, block_at}
 use Rattle.block.proofs.Rowing.{row-eq, rows-length, rows_ext}
 use Rattle.block.proofs.Parts.{row-take}
 use Rattle.block.proofs.Using.{holds_same}
-use Rattle.budget.specs.declared.Pushed.{Pushed}
-use Rattle.budget.specs.View.{view}
-use Rattle.walk.specs.Stack.{node_width}
+use Rattle.std.specs.Prelude.{Result}
+use Rattle.parity.specs.declared.Parity.{Parity}
+use Rattle.budget.specs.declared.Budget as Code
+use Rattle.budget.specs.declared.Spent.{Spent}
+use Rattle.budget.specs.View.{nothing_counted, counts_after, made}
+use Rattle.walk.specs.declared.Slot.{Slot}
 use Rattle.synth.specs.Resynthesis.{Rooms, Synthesizes}
 use Rattle.flush.specs.Choice.{Writes, Fitted, Lent, Flushable}
 use Rattle.flush.proofs.Keeping.{writes}
 
 -- ---- the block
 
-pub block-cut : (b : State.Block) (names rows room : List ℕ) → b.terms ≤ length (terms_of room)
-    → block_at b (take b.wires names) (take (2 * b.wires) rows) (take (term_width * b.terms) room) ≡ block_at b names rows room
+pub block-cut : (b : State.Block) (names : List ℕ) (rows : List Parity) (room : List ℕ) → b.terms ≤ length (terms_of room)
+    → block_at b (take b.wires names) (take b.wires rows) (take (term_width * b.terms) room) ≡ block_at b names rows room
 unfolding rows_at terms_at
 block-cut b names rows room l =
     let n = b.wires in
     let v = val b.flips in
     ap₂ (λ (rs : List Row) (ts : List Term). record { rows = rs; terms = ts })
-    (rows_ext (row_at (take n names) (rows_of (take (2 * n) rows)) v) (row_at names (rows_of rows) v) n 0
+    (rows_ext (row_at (take n names) (rows_of (take n rows)) v) (row_at names (rows_of rows) v) n 0
     (λ j l h. row-eq (get_or-take n names j 0 (omega arith)) (ap (λ (hs : List ℕ). get_or hs j 0) (row-take n rows) ∙ get_or-take n (rows_of rows) j 0 (omega arith)) refl))
     (ap (take b.terms) (room_take b.terms room l) ∙ take-take b.terms b.terms (terms_of room) (le_refl _))
 
@@ -58,7 +61,7 @@ below-from m f (suc n) i h j l k =
     same i j (λ e _. subst (λ (z : ℕ). (f z).parity < 2 ^ m) e h.0) (λ e _. below-from m f n (suc i) h.1 j (omega arith) (omega arith))
 
 -- the parities of a run's block are below 2 ^ n
-pub block-below : (run : List ℤ) (b : State.Block) (names rows room : List ℕ) → block_at b names rows room ≡ block_of (gates_of run)
+pub block-below : (run : List ℤ) (b : State.Block) (names : List ℕ) (rows : List Parity) (room : List ℕ) → block_at b names rows room ≡ block_of (gates_of run)
     → (i : ℕ) → i < b.wires → get_or (rows_of rows) i 0 < 2 ^ b.wires
 unfolding rows_at block_of RowsBelow TermsBelow
 block-below run b names rows room e i l =
@@ -75,12 +78,12 @@ two-le (g ∷ gs) = let h = two-le gs in split (is_two g.code) (λ e. rw e (omeg
 
 -- the budget that the run's length and a count of its CNOT and CZ make
 abbrev pub ceilings : List ℤ → ℕ → Budget
-ceilings run t = record { two = 0; all = 0; max_two = t; max_all = length run / width }
+ceilings run t = nothing_counted t (length run / width)
 
 ceilings-are : (run : List ℤ) (t : ℕ) → t ≡ twos (gates_of run) → ceilings run t ≡ budget_of (gates_of run)
 ceilings-are run t e = rw (e, gates-length run)
 
-module _ {run place : List ℤ} {b : State.Block} {names rows room nodes held right steps : List ℕ} (f : Fitted run place b names rows room nodes held right steps)
+module _ {run place : List ℤ} {b : State.Block} {names : List ℕ} {rows : List Parity} {room : List ℕ} {nodes : List Slot} {held right : List Parity} {steps : List ℕ} (f : Fitted run place b names rows room nodes held right steps)
     {t : ℕ} (e : t ≡ twos (gates_of run)) where
   -- what the engine asks
   pub asked : Rooms b names rows room nodes held right steps (length run / width) × Ready place (ceilings run t)
@@ -90,31 +93,28 @@ module _ {run place : List ℤ} {b : State.Block} {names rows room nodes held ri
   )
 
   -- what it then has made
-  pub attempted : {after : List ℤ} (p : Pushed) → Synthesizes (block_at b names rows room) place (ceilings run t) after (view p.budget) p.within
+  pub attempted : {after : List ℤ} (p : Result Code.Budget Spent) → Synthesizes (block_at b names rows room) place (ceilings run t) after (counts_after p) (made p)
       → Writes resynthesis (gates_of run) after p
   attempted {after} p h = writes (gates_of run) place after p (rw (← f.same, ← ceilings-are run t e) h)
 
 -- what is made lies at the place
-pub made-fits : (bl : Block) (before after : List ℤ) (b : Budget) (p : Pushed) → Synthesizes bl before b after (view p.budget) p.within
-    → p.within ≡ true → width * p.budget.all ≤ length after
+pub made-fits : (bl : Block) (before after : List ℤ) (b : Budget) (p : Result Code.Budget Spent) → Synthesizes bl before b after (counts_after p) (made p)
+    → made p ≡ true → width * (counts_after p).all ≤ length after
 made-fits bl before after b p h w = go (synth bl) refl
   where
-    go : (o : Option (List Gate)) → synth bl ≡ o → width * p.budget.all ≤ length after
+    go : (o : Option (List Gate)) → synth bl ≡ o → width * (counts_after p).all ≤ length after
     go none e = absurd (false≢true (sym (h.lost e) ∙ w))
-    go (some new) e = let r : Ready after (view p.budget) = (h.emits new e).ready w in omega (arith, r.all, r.room)
+    go (some new) e = let r : Ready after (counts_after p) = (h.emits new e).ready w in omega (arith, r.all, r.room)
 
 -- ---- the parts that are lent
 
-module _ (run place : List ℤ) (b : State.Block) (table names rows room nodes held right steps : List ℕ)
-    (f : Flushable run b table names rows room) (l : Lent run place nodes held right steps) where
-  -- each room has the part that the block needs
+module _ (run place : List ℤ) (b : State.Block) (table names : List ℕ) (rows : List Parity) (room steps : List ℕ) (f : Flushable run b table names rows room)
+    (l : Lent run place steps) where
+  -- each room whose length is the caller's has the part that the block needs
   pub record Enough : Type 0 where
     pub names_in : b.wires ≤ length names
-    pub rows_in : 2 * b.wires ≤ length rows
+    pub rows_in : b.wires ≤ length rows
     pub terms-in : term_width * b.terms ≤ length room
-    pub nodes-in : node_width * (b.wires + 1) ≤ length nodes
-    pub held_in : 2 * b.wires ≤ length held
-    pub right-in : 2 * b.wires ≤ length right
     pub steps-in : step_width * (length (gates_of run) + 1) ≤ length steps
 
   pub enough : Enough
@@ -124,15 +124,13 @@ module _ (run place : List ℤ) (b : State.Block) (table names rows room nodes h
         names_in = omega (arith, j.few, j.room);
         rows_in = omega (arith, j.few, f.holds.rows_are.wide, row_count rows);
         terms-in = omega (arith, f.holds.terms-are.few, room-length room);
-        nodes-in = omega (arith, j.few, l.work.deep);
-        held_in = omega (arith, j.few, l.work.held, row_count held);
-        right-in = omega (arith, j.few, l.work.right, row_count right);
         steps-in = l.long;
       }
 
-  pub fitted : Fitted run place b (take b.wires names) (take (2 * b.wires) rows) (take (term_width * b.terms) room) (take (node_width * (b.wires + 1)) nodes)
-      (take (2 * b.wires) held) (take (2 * b.wires) right) (take (step_width * (length (gates_of run) + 1)) steps)
-  fitted =
+  pub fitted : (nodes : List Slot) (held right : List Parity) → b.wires + 1 ≤ length nodes → b.wires ≤ length held → b.wires ≤ length right
+      → Fitted run place b (take b.wires names) (take b.wires rows) (take (term_width * b.terms) room) (take (b.wires + 1) nodes)
+      (take b.wires held) (take b.wires right) (take (step_width * (length (gates_of run) + 1)) steps)
+  fitted nodes held right ln lh lr =
       let n : ℕ = b.wires in
       let j = f.holds.rows_are.joins in
       let same : block_at b names rows room ≡ block_of (gates_of run) = holds_same f.holds in
@@ -148,12 +146,12 @@ module _ (run place : List ℤ) (b : State.Block) (table names rows room nodes h
             named = size;
             wired = λ i h. let k : i < n = omega (arith, size) in rw (get_or-take n names i 0 k) (omega (arith, j.inside i k, f.wires));
             terms = omega (arith, ap length (room_take b.terms room t) ∙ length-take-le b.terms (terms_of room) t);
-            deep = omega (arith, length-take-le (node_width * (n + 1)) nodes enough.nodes-in);
-            held = length-take-le (2 * n) held enough.held_in;
+            deep = omega (arith, length-take-le (n + 1) nodes ln);
+            held = length-take-le n held lh;
           };
-          wide = length-take-le (2 * n) rows enough.rows_in;
+          wide = length-take-le n rows enough.rows_in;
           below = λ i h. rw (row-take n rows, get_or-take n (rows_of rows) i 0 h) (block-below run b names rows room same i h);
-          right = length-take-le (2 * n) right enough.right-in;
+          right = length-take-le n right lr;
           long = omega (arith, length-take-le (step_width * (length (gates_of run) + 1)) steps enough.steps-in);
         };
       }

@@ -2,14 +2,13 @@
 use mathlib.Core.Path.{◌≡◌, refl, sym, ap, ◌∙◌}
 use mathlib.Core.Logic.{◌⊎◌, inl, inr}
 use mathlib.Core.Bool.{true, false, ◌&&◌, false≢true}
-use mathlib.Core.List.{List, [], ◌∷◌, ◌++◌}
+use mathlib.Core.List.{List, []}
 use mathlib.Core.Option.{Option, none, some}
-use Prim.Native.Nat.{ℕ, ◌+◌, ◌*◌, ◌≤◌, ◌<◌}
+use Prim.Native.Nat.{ℕ, ◌*◌, ◌≤◌, ◌<◌}
 use native.Mathlib.Omega.{arith}
-use native.Mathlib.Numerals.{add-one}
 use lib.IntN.{ℤ}
-use lib.ListN.{length, get_or, set, take}
-use lib.Seq.{take_all, take-suc, take-suc-set}
+use lib.ListN.{length, take}
+use lib.Seq.{take_all}
 use Rattle.rules.specs.Limits.{width}
 use Rattle.rules.specs.Gate.{Gate}
 use Rattle.rules.specs.Numbers.{gates_of, numbers_of}
@@ -25,8 +24,10 @@ use Rattle.rules.proofs.Stamping.{stamp-length, stamp-twos, stamp-cheaper}
 use Rattle.gate.specs.Writing.{stamped}
 use Rattle.gate.proofs.Lines.{stamped-gates}
 use Rattle.emit.specs.Emitted.{Holds, Passes, dear, long, Emits}
-use Rattle.budget.specs.declared.Pushed.{Pushed}
-use Rattle.budget.specs.View.{view}
+use Rattle.std.specs.Prelude.{Result}
+use Rattle.budget.specs.declared.Budget as Code
+use Rattle.budget.specs.declared.Spent.{Spent}
+use Rattle.budget.specs.View.{counts_after, made}
 use Rattle.synth.specs.Resynthesis.{Synthesizes}
 use Rattle.flush.specs.Choice.{keeps, Made, Writes, Exact, Settles}
 
@@ -59,17 +60,17 @@ chosen-old write gs e = rw e
 
 -- ---- what is settled, whatever the writer is
 
-module _ (write : Writer) (run place : List ℤ) (p : Pushed) (t : Writes write (gates_of run) place p) (x : Exact run) where
+module _ (write : Writer) (run place : List ℤ) (p : Result Code.Budget Spent) (t : Writes write (gates_of run) place p) (x : Exact run) where
   abbrev old : List Gate
   old = gates_of run
 
   -- kept: the new writing is there, and is cheaper
-  pub kept : (p.within && keeps (view p.budget)) ≡ true → Settles write run place (record { gates = p.budget.all; replaced = true })
+  pub kept : (made p && keeps (counts_after p)) ≡ true → Settles write run place (record { gates = (counts_after p).all; replaced = true })
   unfolding replaces
   kept w =
-      let b : Budget = view p.budget in
-      let m : Made (write old) old place b = t.made (and_left p.within (keeps b) w) in
-      let cheap : cheaper (write old) old ≡ true = sym (keeps-cheaper place b (write old) old m.holds m.max_two m.max_all) ∙ and_right p.within (keeps b) w in
+      let b : Budget = counts_after p in
+      let m : Made (write old) old place b = t.made (and_left (made p) (keeps b) w) in
+      let cheap : cheaper (write old) old ≡ true = sym (keeps-cheaper place b (write old) old m.holds m.max_two m.max_all) ∙ and_right (made p) (keeps b) w in
       let new : chosen write old ≡ write old = chosen-new write old cheap in
       record {
         text = ap (λ (n : ℕ). take (width * n) place) m.holds.all ∙ m.holds.text ∙ ap numbers_of (sym new);
@@ -78,13 +79,13 @@ module _ (write : Writer) (run place : List ℤ) (p : Pushed) (t : Writes write 
       }
 
   -- not kept: the new writing is not cheaper, and the run is copied
-  pub copied : (p.within && keeps (view p.budget)) ≡ false → (place' : List ℤ) (n : ℕ) → place' ≡ run → n ≡ length old
+  pub copied : (made p && keeps (counts_after p)) ≡ false → (place' : List ℤ) (n : ℕ) → place' ≡ run → n ≡ length old
       → Settles write run place' (record { gates = n; replaced = false })
   unfolding replaces
   copied w place' n e q =
-      let b : Budget = view p.budget in
+      let b : Budget = counts_after p in
       let dear-is : cheaper (write old) old ≡ false =
-      split p.within
+      split (made p)
       (λ f. let m : Made (write old) old place b = t.made f in sym (keeps-cheaper place b (write old) old m.holds m.max_two m.max_all) ∙ (rw f at w))
       (λ f. t.stopped f) in
       let same : chosen write old ≡ old = chosen-old write old dear-is in
@@ -98,20 +99,20 @@ module _ (write : Writer) (run place : List ℤ) (p : Pushed) (t : Writes write 
 -- ---- today's writer
 
 -- nothing is written, nothing is counted
-holds-none : (out : List ℤ) (old : List Gate) → Holds out (budget_of old) []
+holds-none : (out : List ℤ) (gs : List Gate) → Holds out (budget_of gs) []
 unfolding numbers_of twos
-holds-none out old = record { text = refl; two = refl; all = refl }
+holds-none out gs = record { text = refl; two = refl; all = refl }
 
 -- gates emitted within the run's own counts are what a writer says, if it says them
-pub written : (write : Writer) (gs new : List Gate) (before after : List ℤ) (p : Pushed) → write gs ≡ new
-    → Emits new before (budget_of gs) after (view p.budget) p.within → Writes write gs after p
+pub written : (write : Writer) (gs new : List Gate) (before after : List ℤ) (p : Result Code.Budget Spent) → write gs ≡ new
+    → Emits new before (budget_of gs) after (counts_after p) (made p) → Writes write gs after p
 written write gs new before after p e m = record {
   made = λ w. record { holds = rw e (m.made w [] (holds-none before gs)); max_two = m.max_two; max_all = m.max_all };
   stopped = λ w. rw e (passes-not-cheaper new gs (m.spent w [] (holds-none before gs)));
 }
 
 -- the resynthesis; where a block had none the run would stand for it
-pub writes : (gs : List Gate) (before after : List ℤ) (p : Pushed) → Synthesizes (block_of gs) before (budget_of gs) after (view p.budget) p.within → Writes resynthesis gs after p
+pub writes : (gs : List Gate) (before after : List ℤ) (p : Result Code.Budget Spent) → Synthesizes (block_of gs) before (budget_of gs) after (counts_after p) (made p) → Writes resynthesis gs after p
 unfolding resynthesis
 writes gs before after p t = go (synth (block_of gs)) refl
   where
@@ -122,11 +123,11 @@ writes gs before after p t = go (synth (block_of gs)) refl
 -- ---- lines around a writer
 
 -- made: the gates get the line of the run's first, and nothing else of what is said of them changes
-pub lined-made : (write : Writer) (gs : List Gate) (place : List ℤ) (p : Pushed) → p.within ≡ true → Writes write gs place p
-    → Writes (lined write) gs (stamped (line_of gs) p.budget.all 0 place) p
+pub lined-made : (write : Writer) (gs : List Gate) (place : List ℤ) (p : Result Code.Budget Spent) → made p ≡ true → Writes write gs place p
+    → Writes (lined write) gs (stamped (line_of gs) (counts_after p).all 0 place) p
 unfolding lined
 lined-made write gs place p w t =
-    let m : Made (write gs) gs place (view p.budget) = t.made w in
+    let m : Made (write gs) gs place (counts_after p) = t.made w in
     let n : ℕ = line_of gs in
     let e : length (stamp n (write gs)) ≡ length (write gs) = stamp-length n (write gs) in
     record {
@@ -143,17 +144,7 @@ lined-made write gs place p w t =
     }
 
 -- stopped: no line makes it cheaper
-pub lined-stopped : (write : Writer) (gs : List Gate) (place : List ℤ) (p : Pushed) → p.within ≡ false → Writes write gs place p → Writes (lined write) gs place p
+pub lined-stopped : (write : Writer) (gs : List Gate) (place : List ℤ) (p : Result Code.Budget Spent) → made p ≡ false → Writes write gs place p → Writes (lined write) gs place p
 unfolding lined
 lined-stopped write gs place p s t =
     record { made = λ w. absurd (false≢true (sym s ∙ w)); stopped = λ _. stamp-cheaper (line_of gs) (write gs) gs ∙ t.stopped s }
-
--- ---- a copy, number by number
-
-pub copy-next : (run place : List ℤ) (i : ℕ) (d : ℤ) → i < length run → length place ≡ length run → take i place ≡ take i run → take (i + 1) (set place i (get_or run i d)) ≡ take (i + 1) run
-copy-next run place i d l n e =
-    ap (λ (k : ℕ). take k (set place i (get_or run i d))) (add-one i) ∙ take-suc-set place i (get_or run i d) (omega arith)
-    ∙ ap (λ (t : List ℤ). t ++ (get_or run i d ∷ [])) e ∙ sym (take-suc run i d l) ∙ ap (λ (k : ℕ). take k run) (sym (add-one i))
-
-pub copy-end : (run place : List ℤ) (i : ℕ) → length run ≤ i → length place ≡ length run → take i place ≡ take i run → place ≡ run
-copy-end run place i l n e = sym (take_all i place (omega arith)) ∙ e ∙ take_all i run l

@@ -8,20 +8,22 @@ ghost use Rattle.rules.specs.Scan.{Writer};
 ghost use Rattle.rules.specs.Lines.{lined};
 ghost use Rattle.rules.specs.Pass.{writer_of};
 ghost use Rattle.budget.specs.View as Counted;
+ghost use Rattle.budget.specs.View.{counts_after, made};
 ghost use Rattle.plan.specs.View.{view};
 ghost use Rattle.flush.specs.Choice.{keeps, Writes, Exact, Settles, Fitted, Flushable, Lent, Flushes};
 
 use block::Block;
-use budget::{Budget, Pushed};
+use budget::{Budget, Spent};
+use parity::Parity;
 use plan::Plan;
 use rules::{GATE_WIDTH, MAX_COLUMNS, STEP_WIDTH, TERM_WIDTH};
-use walk::NODE_WIDTH;
+use walk::Slot;
 
-// Numbers of a stack that is enough for every block.
-pub const STACK: usize = NODE_WIDTH * (MAX_COLUMNS + 1);
+// Nodes of a stack that is enough for every block.
+pub const STACK: usize = MAX_COLUMNS + 1;
 
 // How many gates the place now has, and whether they are new.
-#[derive(Clone, Copy)]
+#[derive(Clone, Copy, Debug, PartialEq, Eq)]
 pub struct Flushed {
     pub gates: usize,
     pub replaced: bool,
@@ -34,45 +36,33 @@ pub fn cheaper(b: Budget) -> bool
     (b.all <= b.maxall) & ((b.two < b.maxtwo) | ((b.two == b.maxtwo) & (b.all < b.maxall)))
 }
 
-// The run at the place.
-pub fn copy(run: &[i32], place: &mut [i32])
-    requires { length place.old ≡ length run.now }
-    ensures { place.new ≡ run.now }
-{
-    for i in 0..run.len() {
-        place[i] = run[i];
-    }
-}
-
 // Keeps what was written at the place, or copies the run there: the choice, whatever the writer is.
-fn settle(run: &[i32], place: &mut [i32], p: Pushed) -> Flushed
+fn settle(run: &[i32], place: &mut [i32], p: Result<Budget, Spent>) -> Flushed
     requires { length place.old ≡ length run.now }
     ensures { (write : Writer) → Exact run.now → Writes write (gates_of run.now) place.old p → Settles write run.now place.new result }
 {
-    let spent = p.budget;
-    let replaced = p.within & cheaper(spent);
-    if replaced {
-        Flushed {
-            gates: spent.all,
+    match p {
+        Ok(b) if cheaper(b) => Flushed {
+            gates: b.all,
             replaced: true,
-        }
-    } else {
-        copy(run, place);
-        Flushed {
-            gates: run.len() / GATE_WIDTH,
-            replaced: false,
+        },
+        _ => {
+            place.copy_from_slice(run);
+            Flushed {
+                gates: run.len() / GATE_WIDTH,
+                replaced: false,
+            }
         }
     }
 }
 
 // Gates that were written at the place get the line of the run's first gate, whatever the writer is.
-fn mark(run: &[i32], place: &mut [i32], p: Pushed)
-    requires { p.within ≡ true → width * p.budget.all ≤ length place.old }
+fn mark(run: &[i32], place: &mut [i32], p: Result<Budget, Spent>)
+    requires { made p ≡ true → width * (counts_after p).all ≤ length place.old }
     ensures { (write : Writer) → Writes write (gates_of run.now) place.old p → Writes (lined write) (gates_of run.now) place.new p }
 {
-    let spent = p.budget;
-    if p.within {
-        gate::stamp(place, spent.all, gate::line(run));
+    if let Ok(b) = p {
+        gate::stamp(place, b.all, gate::line(run));
     }
 }
 
@@ -82,23 +72,18 @@ fn attempt(
     place: &mut [i32],
     block: Block,
     names: &[u32],
-    rows: &[u64],
+    rows: &[Parity],
     room: &mut [u64],
-    nodes: &mut [u64],
-    held: &mut [u64],
-    right: &mut [u64],
+    nodes: &mut [Slot],
+    held: &mut [Parity],
+    right: &mut [Parity],
     steps: &mut [u32],
     plan: Plan,
-) -> Pushed
+) -> Result<Budget, Spent>
     requires { Fitted run.now place.old block names.now rows.now room.old nodes.old held.old right.old steps.old }
     ensures { Writes (writer_of (view plan)) (gates_of run.now) place.new result }
 {
-    let b = Budget {
-        two: 0,
-        all: 0,
-        maxtwo: gate::count_two(run),
-        maxall: run.len() / GATE_WIDTH,
-    };
+    let b = Budget::new(gate::count_two(run), run.len() / GATE_WIDTH);
     let p = synth::synthesize(
         block,
         names,
@@ -123,22 +108,21 @@ pub fn flush(
     block: Block,
     table: &mut [u32],
     names: &[u32],
-    rows: &[u64],
+    rows: &[Parity],
     room: &mut [u64],
-    nodes: &mut [u64],
-    held: &mut [u64],
-    right: &mut [u64],
+    nodes: &mut [Slot; STACK],
+    held: &mut [Parity; MAX_COLUMNS],
+    right: &mut [Parity; MAX_COLUMNS],
     steps: &mut [u32],
     plan: Plan,
 ) -> Flushed
     requires flushable { Flushable run.now block table.old names.now rows.now room.old }
-    requires lent { Lent run.now place.old nodes.old held.old right.old steps.old }
+    requires lent { Lent run.now place.old steps.old }
     ensures { Flushes (writer_of (view plan)) run.now place.new table.new names.now result }
 {
     let wires = block.wires;
     let n = wires as usize;
-    let matrix = 2 * n;
-    let stack = NODE_WIDTH * (n + 1);
+    let stack = n + 1;
     let terms = TERM_WIDTH * block.terms;
     let most = STEP_WIDTH * (run.len() / GATE_WIDTH + 1);
     let p = attempt(
@@ -146,11 +130,11 @@ pub fn flush(
         &mut *place,
         block,
         &names[..n],
-        &rows[..matrix],
+        &rows[..n],
         &mut room[..terms],
         &mut nodes[..stack],
-        &mut held[..matrix],
-        &mut right[..matrix],
+        &mut held[..n],
+        &mut right[..n],
         &mut steps[..most],
         plan,
     );

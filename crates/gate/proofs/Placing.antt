@@ -4,12 +4,23 @@ use mathlib.Core.List.{List, [], ◌∷◌, ◌++◌, append_assoc}
 use Prim.Native.Nat.{ℕ, ◌+◌, ◌*◌, ◌≤◌}
 use native.Mathlib.Omega.{arith}
 use lib.IntN.{ℤ}
-use lib.ListN.{length, take, drop, length-append, length-drop}
+use lib.ListN.{length, take, drop, set, length-append, length-drop}
 use lib.Seq.{length-take-le, take_at}
 use Rattle.rules.specs.Limits.{width}
 use Rattle.rules.specs.Gate.{Gate}
 use Rattle.rules.specs.Numbers.{numbers, numbers_of}
 use Rattle.gate.specs.Writing.{placed}
+
+-- six numbers stored over six
+pub six-set : (r : List ℤ) (a b c d e f : ℤ) → length r ≡ width → set (set (set (set (set (set r 0 a) 1 b) 2 c) 3 d) 4 e) 5 f ≡ (a ∷ b ∷ c ∷ d ∷ e ∷ f ∷ [])
+six-set [] a b c d e f h = absurd (omega arith)
+six-set (u ∷ []) a b c d e f h = absurd (omega arith)
+six-set (u ∷ v ∷ []) a b c d e f h = absurd (omega arith)
+six-set (u ∷ v ∷ w ∷ []) a b c d e f h = absurd (omega arith)
+six-set (u ∷ v ∷ w ∷ x ∷ []) a b c d e f h = absurd (omega arith)
+six-set (u ∷ v ∷ w ∷ x ∷ y ∷ []) a b c d e f h = absurd (omega arith)
+six-set (u ∷ v ∷ w ∷ x ∷ y ∷ z ∷ []) a b c d e f h = refl
+six-set (u ∷ v ∷ w ∷ x ∷ y ∷ z ∷ q ∷ r) a b c d e f h = absurd (omega arith)
 
 numbers_of-snoc : (gs : List Gate) (g : Gate) → numbers_of gs ++ numbers g ≡ numbers_of (gs ++ (g ∷ []))
 unfolding numbers_of

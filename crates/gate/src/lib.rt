@@ -375,6 +375,7 @@ pub fn check_gates(list: &[i32], wires: usize, bits: usize, n: usize) -> Result<
 }
 
 // The list against the limits and the rooms, which are given by how many numbers they hold, then its gates.
+// Stays: wires and bits are two numbers, as callers hand them in and each definition takes them; a struct would be taken apart in every clause.
 pub fn check_list(
     list: &[i32],
     wires: usize,
@@ -423,14 +424,14 @@ pub fn write(out: &mut [i32], i: usize, g: Gate)
     ensures { out.new ≡ placed out.old i (gate_of g) }
 {
     let at = GATE_WIDTH * i;
-    out[at..at + GATE_WIDTH].copy_from_slice(&[
-        g.code as i32,
-        g.first as i32,
-        g.second as i32,
-        g.third as i32,
-        g.turn as i32,
-        0,
-    ]);
+    let row = &mut out[at..at + GATE_WIDTH];
+    // Stays: six stores, since `copy_from_slice` from an array of the six takes several times as long.
+    row[0] = g.code as i32;
+    row[1] = g.first as i32;
+    row[2] = g.second as i32;
+    row[3] = g.third as i32;
+    row[4] = g.turn as i32;
+    row[5] = 0;
 }
 
 // ---- lines
@@ -452,12 +453,14 @@ pub fn stamp(out: &mut [i32], n: usize, line: u32)
     ensures { out.new ≡ stamped line n 0 out.old }
 {
     let l = line as i32;
+    // Stays: `chunks_exact_mut` lends the gates, and tells a proof nothing of what is written to them.
     for i in 0..n {
         out[GATE_WIDTH * i + 5] = l;
     }
 }
 
 // ---- counts: the sum moves by a test, so that the loops have no branch on data
+// Stays: two loops, since `filter` and `count` promise no loop without a branch, and a contract of one loop over any test would be longer than both.
 
 // CNOT and CZ.
 pub fn count_two(list: &[i32]) -> usize

@@ -1,18 +1,34 @@
 -- What the crate's functions say.
-use Rattle.std.specs.Prelude.{◌≡◌, false, List, ℕ, ◌*◌, ◌≤◌, ℤ, length, take}
+use Rattle.std.specs.Prelude.{◌≡◌, false, List, ℕ, ◌*◌, ◌≤◌, ℤ, length, take, Result, Ok, Err}
 use Rattle.rules.specs.Limits.{width}
+use Rattle.rules.specs.Refusal.{accepted}
 use Rattle.spelling.specs.Sizes.{list_bytes, list_gates}
 use Rattle.spelling.specs.Reading.{read, read_text}
+use Rattle.spelling.specs.Texts as Texts
 use Rattle.spelling.specs.Heads.{head_of}
 use Rattle.spelling.specs.declared.Head.{Head}
-use Rattle.saying.specs.Answer.{Next}
+use Rattle.saying.specs.Answer.{Next, exact}
 use Rattle.saying.specs.Clauses.{Says, Few, Declined}
 use Rattle.saying.specs.declared.Said.{Said}
-use Rattle.saying.specs.declared.Taken.{Taken}
-use Rattle.saying.specs.declared.Taken.TheVariants.{Refused, Good}
+use Rattle.gate.specs.declared.Fault.TheVariants.{Limits}
+use Rattle.saying.specs.declared.Reason.{Reason}
+use Rattle.saying.specs.declared.Reason.TheVariants.{Unspelled, Many, List as OfList}
+use Rattle.qasm.specs.declared.Wrong.{Wrong}
+use Rattle.qasm.specs.declared.Wrong.TheVariants as Of
+use Rattle.qasm.specs.declared.Wrong.TheVariants.{Line}
 use Rattle.qasm.specs.Import.{list, read_qasm}
 use Rattle.qasm.specs.Export.{qasm_text, relined}
 use Rattle.import.specs.Answer.{head_for, answer_by, answer}
+
+-- a text that isn't read: 13, 12 or 3
+abbrev pub reason_of : Wrong → Reason
+reason_of (Line k) = Unspelled k
+reason_of Of.Many = Many 0
+reason_of Of.Large = OfList (record { fault = Limits; place = 0 })
+
+-- a list that was read is never refused
+abbrev pub right : Texts.Head → List ℤ → Type 0
+right h numbers = exact h numbers ≡ accepted
 
 -- what a text that was read leaves in the numbers' room: whole gates, not too many, and all of them there. What the program says of them is the answer
 pub record Held (text : List ℕ) (numbers' : List ℤ) (h : Head) (n : ℕ) : Type 0 where
@@ -22,12 +38,12 @@ pub record Held (text : List ℕ) (numbers' : List ℤ) (h : Head) (n : ℕ) : T
   pub few : Few (take (width * n) numbers')
   pub head : head_of h ≡ head_for h.wires h.bits
   pub reads : read_qasm list_gates text ≡ list h.wires h.bits (take (width * n) numbers')
+  pub known : right (head_of h) (take (width * n) numbers')
   pub answer : (next : Next) → answer_by next text ≡ next (head_of h) (take (width * n) numbers')
 
--- nothing is printed for a list that was read
-abbrev pub Takes : List ℕ → List ℕ → List ℤ → Taken → List ℕ → Type 0
-Takes text room numbers' (Refused s) room' = Declined answer_by text room s room'
-Takes text room numbers' (Good h n) room' = Held text numbers' h n × (room' ≡ room)
+abbrev pub Takes : List ℕ → List ℤ → Result (Head × ℕ) Reason → Type 0
+Takes text numbers' (Ok p) = Held text numbers' p.0 p.1
+Takes text numbers' (Err e) = Declined answer_by text e
 
 -- the laboratory's text reads as wires, bits and gates; what is printed reads as their list; and export would print the text that was read
 pub record Translated (text printed : List ℕ) : Type 0 where

@@ -1,19 +1,17 @@
 // Import: a laboratory's text, OpenQASM 2.0, as our list's text, or its refusal.
 #![tactic(auto)]
 
-ghost use Rattle.std.specs.Prelude.{◌*◌, ◌≤◌, length};
+ghost use Rattle.std.specs.Prelude.{◌≡◌, ◌*◌, ◌≤◌, length};
+ghost use Rattle.std.proofs.Math.Nat.{le_refl};
 ghost use Rattle.rules.specs.Limits.{width};
 ghost use Rattle.spelling.specs.Sizes.{list_gates, answer_bytes};
-ghost use Rattle.spelling.specs.Texts.{list_text};
-ghost use Rattle.spelling.specs.Heads.{head_of};
-ghost use Rattle.saying.specs.Answer.{answered};
-ghost use Rattle.saying.specs.Clauses.{Says, Few};
 ghost use Rattle.import.specs.Answer as Paper;
-ghost use Rattle.import.specs.Clauses.{Takes, Imports};
+ghost use Rattle.import.specs.Clauses.{reason_of, right, Takes, Imports};
 
-use qasm::Imported;
+use gate::{Fault, Refusal};
+use qasm::Wrong;
 use rules::GATE_WIDTH;
-use saying::{Said, Taken};
+use saying::{Program, Reason, Said};
 use spelling::{ANSWER_BYTES, Head, LIST_BYTES, LIST_GATES};
 
 // The caps of a list that comes from a laboratory.
@@ -24,20 +22,30 @@ pub const TERM_CAP: u32 = 512;
 // `head 5` with 6: each gate shows its line.
 const LINED: u32 = GATE_WIDTH as u32;
 
-// 10, then line by line 13, then 12 and 3. The gates' numbers go into the room.
-pub fn take(text: &[u8], numbers: &mut [i32], out: &mut [u8]) -> Taken
-    requires list_gates_in_bounds { width * list_gates ≤ length numbers.old }
-    requires answer_bytes_in_bounds { answer_bytes ≤ length out.old }
-    ensures { Takes text.now out.old numbers.new result out.new }
+// Why a laboratory's text isn't read.
+fn reason_of(w: Wrong) -> Reason
+    ensures { result ≡ reason_of w }
+{
+    match w {
+        Wrong::Line(line) => Reason::Unspelled(line),
+        Wrong::Many => Reason::Many(0),
+        Wrong::Large => Reason::List(Refusal {
+            fault: Fault::Limits,
+            place: 0,
+        }),
+    }
+}
+
+// 10, then line by line 13, then 12 and 3: the head, and how many gates. Their numbers go into the room.
+pub fn take(text: &[u8], numbers: &mut [i32]) -> Result<(Head, usize), Reason>
+    requires { width * list_gates ≤ length numbers.old }
+    ensures { Takes text.now numbers.new result }
 {
     if LIST_BYTES < text.len() {
-        return Taken::Refused(saying::refuse(out, 10, 0, 0));
+        return Err(Reason::Long);
     }
     match qasm::read_qasm(text, LIST_GATES, numbers) {
-        Imported::Wrong(line) => Taken::Refused(saying::refuse(out, 13, line as u32, 0)),
-        Imported::Many => Taken::Refused(saying::refuse(out, 12, 0, 0)),
-        Imported::Large => Taken::Refused(saying::refuse(out, 3, 0, 0)),
-        Imported::Good(wires, bits, n) => {
+        Ok((wires, bits, n)) => {
             let head = Head {
                 wires,
                 bits,
@@ -45,38 +53,42 @@ pub fn take(text: &[u8], numbers: &mut [i32], out: &mut [u8]) -> Taken
                 terms: TERM_CAP,
                 form: LINED,
             };
-            Taken::Good(head, n)
+            Ok((head, n))
+        }
+        Err(w) => Err(reason_of(w)),
+    }
+}
+
+// The program.
+struct Translate;
+
+impl Program for Translate {
+    ghost by = { Paper.answer_by };
+
+    ghost right = { right };
+
+    ghost next = { Paper.translated };
+
+    ghost room = { answer_bytes };
+
+    fn take(text: &[u8], numbers: &mut [i32]) -> Result<(Head, usize), Reason> {
+        take(text, numbers)
+    }
+
+    // The list, as it was read, with no counts.
+    fn say(numbers: &[i32], head: Head, out: &mut [u8]) -> Said {
+        Said {
+            length: printing::write_list(out, 0, head, numbers),
+            refused: false,
         }
     }
-}
 
-// The list, as it was read, with no counts.
-fn print(numbers: &[i32], head: Head, out: &mut [u8]) -> Said
-    requires few { Few numbers.now }
-    requires answer_bytes_in_bounds { answer_bytes ≤ length out.old }
-    ensures { Says (answered (list_text (head_of head) numbers.now)) out.old result out.new }
-{
-    Said {
-        length: printing::write_list(out, 0, head, numbers),
-        refused: false,
-    }
-}
-
-// The answer goes into a room that always suffices.
-fn answer(text: &[u8], out: &mut [u8]) -> Said
-    requires { answer_bytes ≤ length out.old }
-    ensures { Says (Paper.answer text.now) out.old result out.new }
-{
-    let mut numbers = [0i32; GATE_WIDTH * LIST_GATES];
-    match take(text, &mut numbers, &mut *out) {
-        Taken::Refused(r) => r,
-        Taken::Good(head, n) => print(&numbers[..GATE_WIDTH * n], head, out),
-    }
+    ghost roomy = { le_refl answer_bytes };
 }
 
 // Every text gets an answer.
 pub fn import(text: &[u8], out: &mut [u8; ANSWER_BYTES]) -> Said
     ensures { Imports text.now out.old result out.new }
 {
-    answer(text, out)
+    saying::answer::<Translate>(text, out)
 }

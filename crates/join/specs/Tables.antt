@@ -1,13 +1,12 @@
 -- The join table: for each wire of the circuit its local index plus 1, or 0 where it has not joined. `names` leads back.
-use Rattle.std.specs.Prelude.{◌≡◌, List, ℕ, zero, suc, ◌≤◌, ◌<◌, length, get_or, set}
+use Rattle.std.specs.Prelude.{◌≡◌, Option, Some, None, List, ℕ, zero, suc, ◌≤◌, ◌<◌, length, get_or, set}
 use Rattle.rules.specs.Limits.{max_columns}
-use Rattle.join.specs.declared.Place.{Place}
-use Rattle.join.specs.declared.Place.TheVariants.{At, Nothing}
+use Rattle.join.specs.declared.Local.{Local}
 
 -- a place as the table's number
-abbrev pub number_of : Place → ℕ
-number_of (At i) = suc i.0
-number_of Nothing = zero
+abbrev pub number_of : Option Local → ℕ
+number_of (Some i) = suc i.0
+number_of None = zero
 
 -- n wires have joined, and table and names say the same of them
 pub record Joins (table names : List ℕ) (n : ℕ) : Type 0 where

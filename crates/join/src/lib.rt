@@ -1,44 +1,36 @@
 // Circuit wires and a block's local indices, each a number type of its own. Only what stands here leads from one to the other.
+// Stays: an entry of the join table is a number, the local index plus 1 or 0, since an Option's own tag would double the table.
 #![tactic(auto)]
 
 ghost use Rattle.std.specs.Prelude.{◌≡◌, not, ◌<◌, length, get_or, eqb};
 ghost use Rattle.join.specs.Tables.{number_of, Joins, Joinable, Enters, Leaves};
 
 // A wire of the circuit.
-#[derive(Clone, Copy)]
+#[derive(Clone, Copy, PartialEq, Eq)]
 pub struct Wire(pub u32);
 
 // A joined wire's index within its block.
-#[derive(Clone, Copy)]
+#[derive(Clone, Copy, PartialEq, Eq)]
 pub struct Local(pub u32);
-
-// What a wire's entry of the join table says.
-#[derive(Clone, Copy)]
-pub enum Place {
-    At(Local),
-    Nothing,
-}
 
 // The wire at a local index; `names` has the wires in the order in which they joined.
 pub fn wire_of(names: &[u32], i: Local) -> Wire
     requires { i.0 < length names.now }
     ensures { result.0 ≡ get_or names.now i.0 0 }
 {
-    let at = i.0 as usize;
-    Wire(names[at])
+    Wire(names[i.0 as usize])
 }
 
 // The local index of a wire, if it has joined.
-pub fn place_of(table: &[u32], q: Wire) -> Place
+pub fn place_of(table: &[u32], q: Wire) -> Option<Local>
     requires { q.0 < length table.now }
     ensures { number_of result ≡ get_or table.now q.0 0 }
 {
-    let at = q.0 as usize;
-    let entry = table[at];
+    let entry = table[q.0 as usize];
     if entry == 0 {
-        Place::Nothing
+        None
     } else {
-        Place::At(Local(entry - 1))
+        Some(Local(entry - 1))
     }
 }
 
@@ -47,8 +39,7 @@ pub fn joined(table: &[u32], q: Wire) -> bool
     requires { q.0 < length table.now }
     ensures { result ≡ not (eqb (get_or table.now q.0 0) 0) }
 {
-    let at = q.0 as usize;
-    table[at] != 0
+    place_of(table, q).is_some()
 }
 
 // The wire q takes the local index n.
@@ -56,8 +47,7 @@ pub fn enter(table: &mut [u32], names: &mut [u32], n: u32, q: Wire)
     requires { Joinable table.old names.old n q.0 }
     ensures { Enters table.old names.old n q.0 table.new names.new }
 {
-    let at = q.0 as usize;
-    table[at] = n + 1;
+    table[q.0 as usize] = n + 1;
     names[n as usize] = q.0;
 }
 
@@ -66,8 +56,7 @@ pub fn leave(table: &mut [u32], names: &[u32], n: u32)
     requires { Joins table.old names.now n }
     ensures { Leaves table.new names.now }
 {
-    for i in 0..n {
-        let at = names[i as usize] as usize;
-        table[at] = 0;
+    for &q in &names[..n as usize] {
+        table[q as usize] = 0;
     }
 }

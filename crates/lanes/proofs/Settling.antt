@@ -1,26 +1,31 @@
 -- The test of one wire's sums, and those of all wires: they tell what `quiet` tells.
 use mathlib.Core.Path.{◌≡◌, refl, sym, ap, ap₂, ◌∙◌}
 use mathlib.Core.Bool.{Bool, true, false, not, ◌&&◌, ◌||◌}
-use mathlib.Core.List.{List}
+use mathlib.Core.List.{List, [], ◌∷◌}
 use Prim.Native.Nat.{ℕ, zero, suc, ◌+◌, ◌/◌, ◌%◌, ◌≤◌, ◌<◌}
 use native.Mathlib.Nat.{le_refl, le-suc, le_trans, mod-mod, mod-lt, zero-lt-suc}
 use native.Mathlib.Numerals.{add-one}
 use native.Mathlib.Omega.{arith}
-use lib.ListN.{get_or}
+use lib.ListN.{get_or, length, take}
+use lib.Seq.{take-suc}
 use lib.Dec.{eqb, ltb}
 use borrow.Author.Tests.{eqb-true, eq-eqb, ne_eqb, not-true, ltb-true, ltb-false}
 use Rattle.rules.specs.Bit.{bit}
 use Rattle.rules.specs.Fold.{Term}
 use Rattle.rules.proofs.Bits.{split, same, and_left, and_right}
-use Rattle.parity.specs.View.{val}
+use Rattle.parity.specs.View.{val, none}
+use Rattle.parity.specs.declared.Parity.{Parity}
 use Rattle.rows.specs.Rows.{rows_of}
+use Rattle.rows.proofs.Room.{row_get}
+use Rattle.std.specs.List.{list_all}
+use Rattle.std.proofs.lemmas.List.Folds.{list_all-append}
 use Rattle.acting.specs.Alike.{each}
 use Rattle.acting.specs.Table.{total, quiet}
 use Rattle.acting.proofs.Deciding.{each-true, true-each}
 use Rattle.acting.proofs.Turns.{Even, quiet-even, even-quiet, total_ext}
 use Rattle.lanes.specs.Lanes.{half, near, two, three, odd, Holds, even_rows, settled_of, Settles}
 use Rattle.lanes.specs.declared.Lanes.{Lanes}
-use Rattle.lanes.proofs.Digits.{agree}
+use Rattle.acting.proofs.Computing.{agree}
 
 -- ---- all of a range
 
@@ -44,6 +49,26 @@ pub none_yet : (P : ℕ → Bool) → each zero P ≡ true
 unfolding each
 none_yet P = refl
 
+-- the rows up to m, one after the other
+and-swap : (a b : Bool) → (a && (b && true)) ≡ (b && a)
+and-swap true true = refl
+and-swap true false = refl
+and-swap false true = refl
+and-swap false false = refl
+
+all-each : (f : Parity → Bool) (xs : List Parity) (m : ℕ) → m ≤ length xs → list_all f (take m xs) ≡ each m (λ j. f (get_or xs j none))
+unfolding each
+all-each f xs zero l = refl
+all-each f xs (suc m) l =
+    ap (list_all f) (take-suc xs m none l) ∙ list_all-append f (take m xs) (get_or xs m none ∷ []) ∙ and-swap (list_all f (take m xs)) (f (get_or xs m none))
+    ∙ ap (λ (b : Bool). f (get_or xs m none) && b) (all-each f xs m (omega arith))
+
+pub rows_even : (m n : ℕ) (xs : List Parity) → m ≤ length xs → list_all (λ p. each n (λ k. not (bit (val p) k))) (take m xs) ≡ even_rows m n (rows_of xs)
+unfolding even_rows
+rows_even m n xs l =
+    all-each (λ p. each n (λ k. not (bit (val p) k))) xs m l
+    ∙ each-ext m _ _ (λ j k. ap (λ (z : ℕ). each n (λ i. not (bit z i))) (sym (row_get xs j)))
+
 -- ---- one wire
 
 -- the two digits of a number are 0
@@ -55,20 +80,20 @@ fourth m =
     (λ e f. rw f (same (m / 2 % 2) 1 (λ g h. rw h (sym (ne_eqb (m % 4) 0 (λ k. omega arith))))
     (λ g h. rw h (sym (eq-eqb (m % 4) 0 (omega (arith, mod-lt m {m = 2} (zero-lt-suc 1), mod-lt (m / 2) {m = 2} (zero-lt-suc 1))))))))
 
-pub settles : (i n : ℕ) (s : Lanes) (odds : List ℕ) (both : ℕ) (x y r : Bool) → ((j : ℕ) → bit both j ≡ (bit (val s.low) j || bit (val s.high) j))
-    → x ≡ each i (λ j. not (bit both j)) → y ≡ even_rows (i % half) n (rows_of odds) → r ≡ (eqb (s.turn % 8) 0 && (x && y)) → Settles i n s odds r
+pub settles : (i n : ℕ) (s : Lanes) (both : ℕ) (x y r : Bool) → ((j : ℕ) → bit both j ≡ (bit (val s.low) j || bit (val s.high) j))
+    → x ≡ each i (λ j. not (bit both j)) → y ≡ even_rows (i % half) n (rows_of s.odds) → r ≡ (eqb (s.turn % 8) 0 && (x && y)) → Settles i n s r
 unfolding even_rows settled_of
-settles i n s odds both x y r hb ex ey er = record { tells = tells }
+settles i n s both x y r hb ex ey er = record { tells = tells }
   where
-    tells : (ts : List Term) → Holds i ts s odds → r ≡ settled_of i n ts
+    tells : (ts : List Term) → Holds i ts s → r ≡ settled_of i n ts
     tells ts h =
         let one : eqb (s.turn % 8) 0 ≡ eqb (total (λ p. bit p i) ts % 8) 0 = ap (λ (z : ℕ). eqb z 0) (ap (λ (z : ℕ). z % 8) h.turn ∙ mod-mod (total (λ p. bit p i) ts) 8) in
         let pairs : x ≡ each i (λ j. eqb (total (two i j) ts % 4) 0) =
         ex ∙ each-ext i (λ j. not (bit both j)) (λ j. eqb (total (two i j) ts % 4) 0)
         (λ j l. ap not (hb j ∙ ap₂ (λ (a b : Bool). a || b) (h.low j) (h.high j)) ∙ fourth (total (two i j) ts)) in
         let triples : y ≡ each (i % half) (λ j. each n (λ k. not (odd (total (three i (near i j) k) ts)))) =
-        ey ∙ each-ext (i % half) (λ j. each n (λ k. not (bit (get_or (rows_of odds) j zero) k))) (λ j. each n (λ k. not (odd (total (three i (near i j) k) ts))))
-        (λ j l. each-ext n (λ k. not (bit (get_or (rows_of odds) j zero) k)) (λ k. not (odd (total (three i (near i j) k) ts))) (λ k m. ap not (h.rows j k l))) in
+        ey ∙ each-ext (i % half) (λ j. each n (λ k. not (bit (get_or (rows_of s.odds) j zero) k))) (λ j. each n (λ k. not (odd (total (three i (near i j) k) ts))))
+        (λ j l. each-ext n (λ k. not (bit (get_or (rows_of s.odds) j zero) k)) (λ k. not (odd (total (three i (near i j) k) ts))) (λ k m. ap not (h.rows j k l))) in
         er ∙ ap₂ (λ (a b : Bool). a && b) one (ap₂ (λ (a b : Bool). a && b) pairs triples)
 
 -- ---- all wires: of any three, two are of one word

@@ -39,19 +39,26 @@ unfoldable pub odd : ℕ → Bool
 odd m = eqb (m % 2) 1
 
 -- the sums of the turns ts: those on wire i; with a second wire, by digits; with two others of which the first is of i's word and below it, whether they are odd
-pub record Holds (i : ℕ) (ts : List Term) (s : Lanes) (odds : List ℕ) : Type 0 where
+pub record Holds (i : ℕ) (ts : List Term) (s : Lanes) : Type 0 where
   pub turn : s.turn ≡ total (λ p. bit p i) ts % 8
   pub low : (j : ℕ) → bit (val s.low) j ≡ odd (total (two i j) ts)
   pub high : (j : ℕ) → bit (val s.high) j ≡ odd (total (two i j) ts / 2)
-  pub rows : (j k : ℕ) → j < i % half → bit (get_or (rows_of odds) j zero) k ≡ odd (total (three i (near i j) k) ts)
+  pub rows : (j k : ℕ) → j < i % half → bit (get_or (rows_of s.odds) j zero) k ≡ odd (total (three i (near i j) k) ts)
+
+-- no turn is summed
+pub record None (s : Lanes) : Type 0 where
+  pub turn : s.turn ≡ 0
+  pub low : val s.low ≡ 0
+  pub high : val s.high ≡ 0
+  pub rows : (j : ℕ) → get_or (rows_of s.odds) j zero ≡ 0
 
 -- the parity p is added to each of the rows in `chosen`
 pub record Adds (chosen p : ℕ) (rows rows' : List ℕ) : Type 0 where
   pub at : (j : ℕ) → j < length rows → get_or rows' j zero ≡ xor (get_or rows j zero) (cond (bit chosen j) p zero)
 
 -- whatever turns were summed, then these are too
-pub record Notes (i : ℕ) (new : List Term) (s : Lanes) (odds : List ℕ) (s' : Lanes) (odds' : List ℕ) : Type 0 where
-  pub holds : (ts : List Term) → Holds i ts s odds → Holds i (ts ++ new) s' odds'
+pub record Notes (i : ℕ) (new : List Term) (s s' : Lanes) : Type 0 where
+  pub holds : (ts : List Term) → Holds i ts s → Holds i (ts ++ new) s'
 
 -- the first m rows have none of the columns below n
 unfoldable pub even_rows : ℕ → ℕ → List ℕ → Bool
@@ -66,5 +73,5 @@ settled_of i n ts =
     && (each i (λ j. eqb (total (two i j) ts % 4) 0) && each (i % half) (λ j. each n (λ k. not (odd (total (three i (near i j) k) ts)))))
 
 -- r is that test, whatever turns were summed
-pub record Settles (i n : ℕ) (s : Lanes) (odds : List ℕ) (r : Bool) : Type 0 where
-  pub tells : (ts : List Term) → Holds i ts s odds → r ≡ settled_of i n ts
+pub record Settles (i n : ℕ) (s : Lanes) (r : Bool) : Type 0 where
+  pub tells : (ts : List Term) → Holds i ts s → r ≡ settled_of i n ts

@@ -1,6 +1,5 @@
 -- A note in the place of a statement's LF; and gates one by one.
 use mathlib.Core.Path.{◌≡◌, sym, ap, ◌∙◌}
-use mathlib.Core.Bool.{Bool, true, false}
 use mathlib.Core.List.{List, [], ◌∷◌, ◌++◌}
 use Prim.Native.Nat.{ℕ, suc, ◌+◌, ◌-◌, ◌*◌, ◌^◌, ◌≤◌, ◌<◌}
 use native.Mathlib.Omega.{arith}
@@ -14,8 +13,9 @@ use Rattle.text.specs.Clauses.{Writes, Prints, named_size}
 use Rattle.text.proofs.Pasting.{length-pasted, pasted-none, pasted-one, pasted-over, pasted-both}
 use Rattle.text.proofs.Sizes.{decimal-short, prints-next, prints-both}
 use Rattle.qasm.proofs.Gates.{row_at}
+use Rattle.origin.specs.declared.Source.{Source}
 use Rattle.origin.specs.Origins.{unended, line_note, lines_note}
-use Rattle.origin.specs.Clauses.{note, row_text, rows_text, note_size}
+use Rattle.origin.specs.Clauses.{row_text, rows_text, note_size}
 
 -- ---- the last byte
 
@@ -68,19 +68,18 @@ noted-room m n t room at room' next fits p = omega (arith, p.short, p.writes.beh
 
 -- ---- gate by gate
 
-pub rows_more : (again : Bool) (a b n : ℕ) (ns : List ℤ) (i : ℕ) → i < n
-    → rows_text again a b (n - i) (drop (width * i) ns) ≡ row_text again a b (row_at ns i) ++ rows_text again a b (n - (i + 1)) (drop (width * (i + 1)) ns)
+pub rows_more : (s : Source) (n : ℕ) (ns : List ℤ) (i : ℕ) → i < n → rows_text s (n - i) (drop (width * i) ns) ≡ row_text s (row_at ns i) ++ rows_text s (n - (i + 1)) (drop (width * (i + 1)) ns)
 unfolding rows_text
-rows_more again a b n ns i h =
-    let s : n - i ≡ suc (n - (i + 1)) = omega arith in
+rows_more s n ns i h =
+    let e : n - i ≡ suc (n - (i + 1)) = omega arith in
     let j : width * i + width ≡ width * (i + 1) = omega arith in
-    rw (s, drop-drop width (width * i) ns, j)
+    rw (e, drop-drop width (width * i) ns, j)
 
-pub rows_none : (again : Bool) (a b n : ℕ) (ns : List ℤ) (i : ℕ) → n ≤ i → rows_text again a b (n - i) (drop (width * i) ns) ≡ []
+pub rows_none : (s : Source) (n : ℕ) (ns : List ℤ) (i : ℕ) → n ≤ i → rows_text s (n - i) (drop (width * i) ns) ≡ []
 unfolding rows_text
-rows_none again a b n ns i h =
-    let s : n - i ≡ 0 = omega arith in
-    rw s
+rows_none s n ns i h =
+    let e : n - i ≡ 0 = omega arith in
+    rw e
 
 -- ---- the lines of a block
 
@@ -108,7 +107,10 @@ module _ (a b : ℕ) (small : a < 2 ^ 32) (room : List ℕ) (at : ℕ) (fits : a
         (prints-both 10 15 (decimal a) room₁ n₁ room₂ n₂ word_room begun (named_text (bytes " to") (b ∷ [])) room₃ n₃ p)
 
 -- a note has a byte at least
-pub note-some : (again : Bool) (a b : ℕ) → 1 ≤ length (note again a b)
-unfolding line_note lines_note named_text
-note-some true a b = omega (arith, length-append (bytes " // lines ") (decimal a ++ named_text (bytes " to") (b ∷ [])))
-note-some false a b = omega (arith, length-append (bytes " // line") (all_spaced (a ∷ []) ++ lf ∷ []))
+pub line-some : (n : ℕ) → 1 ≤ length (line_note n)
+unfolding line_note named_text
+line-some n = omega (arith, length-append (bytes " // line") (all_spaced (n ∷ []) ++ lf ∷ []))
+
+pub lines-some : (a b : ℕ) → 1 ≤ length (lines_note a b)
+unfolding lines_note
+lines-some a b = omega (arith, length-append (bytes " // lines ") (decimal a ++ named_text (bytes " to") (b ∷ [])))

@@ -1,6 +1,5 @@
 -- The lines of gates by their numbers are those of their origins; and the origins are of the gates that the pass makes.
 use mathlib.Core.Path.{◌≡◌, refl, sym, ap, ◌∙◌}
-use mathlib.Core.Bool.{true, false}
 use mathlib.Core.List.{List, [], ◌∷◌, ◌++◌, map, append_assoc}
 use Prim.Native.Nat.{ℕ}
 use lib.ListN.{length}
@@ -12,6 +11,7 @@ use Rattle.rules.specs.Scan.{Piece, copied, block, Writer, replaces, chosen, fin
 use Rattle.rules.specs.Lines.{line_of}
 use Rattle.rules.proofs.Bits.{split}
 use Rattle.origin.specs.Origins.{Origin, kept, made, last_from, last_line, origins, origin_text, origins_text}
+use Rattle.origin.specs.declared.Source.TheVariants.{Copied, Again}
 use Rattle.origin.specs.Clauses.{row_text, rows_text}
 
 -- ---- their text
@@ -21,15 +21,15 @@ unfolding origins_text
 text-append [] us = refl
 text-append (o ∷ os) us = ap (λ (l : List ℕ). origin_text o ++ l) (text-append os us) ∙ sym (append_assoc (origin_text o) (origins_text os) (origins_text us))
 
-pub made-rows : (a b : ℕ) (gs : List Gate) → rows_text true a b (length gs) (numbers_of gs) ≡ origins_text (map (made a b) gs)
+pub made-rows : (a b : ℕ) (gs : List Gate) → rows_text (Again a b) (length gs) (numbers_of gs) ≡ origins_text (map (made a b) gs)
 unfolding rows_text row_text origins_text origin_text numbers_of
 made-rows a b [] = refl
 made-rows a b (g ∷ gs) = rw (take_at (numbers g) (numbers_of gs) width refl, drop_at (numbers g) (numbers_of gs) width refl, made-rows a b gs)
 
-pub kept-rows : (a b : ℕ) (gs : List Gate) → rows_text false a b (length gs) (numbers_of gs) ≡ origins_text (map kept gs)
+pub kept-rows : (gs : List Gate) → rows_text Copied (length gs) (numbers_of gs) ≡ origins_text (map kept gs)
 unfolding rows_text row_text origins_text origin_text numbers_of
-kept-rows a b [] = refl
-kept-rows a b (g ∷ gs) = rw (take_at (numbers g) (numbers_of gs) width refl, drop_at (numbers g) (numbers_of gs) width refl, kept-rows a b gs)
+kept-rows [] = refl
+kept-rows (g ∷ gs) = rw (take_at (numbers g) (numbers_of gs) width refl, drop_at (numbers g) (numbers_of gs) width refl, kept-rows gs)
 
 -- ---- the gates
 

@@ -26,7 +26,7 @@ use Rattle.acting.specs.declared.Verdict.TheVariants.{Same, Map, Flips, Phase}
 use Rattle.alike.specs.Asking.{asked}
 use Rattle.alike.specs.Answering as Alike
 use Rattle.alike.specs.Answering.{answer as compared}
-use Rattle.alike.specs.declared.Answer.TheVariants.{Told}
+use Rattle.std.specs.Prelude.{Ok}
 use Rattle.alike.proofs.Meaning.{answers}
 use Rattle.pair.specs.Answer.{verdict_text, told, second_as, first_as, answer}
 use Rattle.pair.specs.Clauses.{Compared, Pairs}
@@ -50,10 +50,10 @@ module _ (us vs : List ℤ) (w : ℕ) where
 
   meant : Alike.Taken us vs w → (v : Verdict) → compared us vs w ≡ Alike.says v → (verdict_text v ≡ bytes "same\n") ↔ AlikeGates (gates_of us) (gates_of vs)
   unfolding size
-  meant t alike e = let a = (answers us vs w (Told Same) (sym e)).same t in (λ x. a.0 refl, λ g. refl)
-  meant t map_differs e = let a = (answers us vs w (Told Map) (sym e)).same t in (λ x. absurd (omega (arith, ap length x)), λ g. absurd (omega (arith, ap size (a.1 g))))
-  meant t flips_differ e = let a = (answers us vs w (Told Flips) (sym e)).same t in (λ x. absurd (omega (arith, ap length x)), λ g. absurd (omega (arith, ap size (a.1 g))))
-  meant t phase_differs e = let a = (answers us vs w (Told Phase) (sym e)).same t in (λ x. absurd (omega (arith, ap length x)), λ g. absurd (omega (arith, ap size (a.1 g))))
+  meant t alike e = let a = (answers us vs w (Ok Same) (sym e)).same t in (λ x. a.0 refl, λ g. refl)
+  meant t map_differs e = let a = (answers us vs w (Ok Map) (sym e)).same t in (λ x. absurd (omega (arith, ap length x)), λ g. absurd (omega (arith, ap size (a.1 g))))
+  meant t flips_differ e = let a = (answers us vs w (Ok Flips) (sym e)).same t in (λ x. absurd (omega (arith, ap length x)), λ g. absurd (omega (arith, ap size (a.1 g))))
+  meant t phase_differs e = let a = (answers us vs w (Ok Phase) (sym e)).same t in (λ x. absurd (omega (arith, ap length x)), λ g. absurd (omega (arith, ap size (a.1 g))))
 
   told-means : (a : Alike.Answer) → compared us vs w ≡ a → (told a).refused ≡ false → ((told a).text ≡ bytes "same\n") ↔ AlikeGates (gates_of us) (gates_of vs)
   told-means (Alike.refusal k r) e f = absurd (true≢false f)

@@ -1,17 +1,25 @@
 -- What the crate's functions ask and say.
-use Rattle.std.specs.Prelude.{◌≡◌, ◌↔◌, false, List, ◌++◌, ℕ, ◌^◌, ◌≤◌, ◌<◌, ℤ, length, take}
+use Rattle.std.specs.Prelude.{◌≡◌, ◌↔◌, Option, None, Some, true, false, List, ◌∷◌, ◌++◌, ℕ, ℤ, take}
 use Rattle.rules.specs.Numbers.{gates_of}
 use Rattle.rules.specs.Stretch.{AlikeGates}
 use Rattle.text.specs.Bytes.{bytes}
-use Rattle.spelling.specs.Texts.{Head, list_text}
+use Rattle.spelling.specs.Texts.{Head, list_text, refusal_text}
+use Rattle.saying.specs.Answer.{Answer}
+use Rattle.saying.specs.Reasons.{three}
+use Rattle.saying.specs.declared.Reason.{Reason}
+use Rattle.alike.specs.Answering.{number_of}
+use Rattle.alike.specs.declared.Which.{Which}
 use Rattle.saying.specs.Clauses.{Says}
 use Rattle.saying.specs.declared.Said.{Said}
 use Rattle.pair.specs.Answer.{answer}
 
--- a place of the text and a line, at which the second list begins
-pub record Begins (text : List ℕ) (at line : ℕ) : Type 0 where
-  pub within : at ≤ length text
-  pub early : line < 2 ^ 16
+-- a refusal of one of the lists, or of neither
+abbrev pub list_of : Option Which → ℕ
+list_of None = 0
+list_of (Some w) = number_of w
+
+abbrev pub refused_as : Option Which → Reason → Answer
+refused_as which reason = record { refused = true; text = refusal_text (list_of which ∷ three reason) }
 
 -- the text is two lists over the same wires, one behind the other; and `same` is printed exactly where they act alike: every setting of the wires goes to the
 -- same setting, and phases differ by one constant modulo 8

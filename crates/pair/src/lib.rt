@@ -1,31 +1,36 @@
 // The entry point text to text: two lists read, one behind the other, and compared.
 #![tactic(auto)]
 
-ghost use Rattle.std.specs.Prelude.{◌≤◌, length, drop};
+ghost use Rattle.std.specs.Prelude.{◌≤◌, ◌<◌, ◌^◌, length};
 ghost use Rattle.spelling.specs.Sizes.{list_gates, answer_bytes};
 ghost use Rattle.spelling.specs.Reading.{list_at};
 ghost use Rattle.saying.specs.Answer.{answered};
+ghost use Rattle.saying.specs.Reasons.{place_of};
 ghost use Rattle.saying.specs.Clauses.{Says};
 ghost use Rattle.acting.specs.Answer.{verdict_of};
 ghost use Rattle.alike.specs.Answering as Alike;
 ghost use Rattle.pair.specs.Answer as Paper;
-ghost use Rattle.pair.specs.Clauses.{Begins, Pairs};
+ghost use Rattle.pair.specs.Clauses.{refused_as, Pairs};
 
 use acting::Verdict;
-use alike::Answer;
-use reading::Front;
+use alike::Which;
 use rules::GATE_WIDTH;
-use saying::Said;
+use saying::{Reason, Said};
 use spelling::{ANSWER_BYTES, LIST_BYTES, LIST_GATES};
 
-// List, number, place and field.
-fn refuse(out: &mut [u8], which: u32, number: u32, place: u32, field: u32) -> Said
-    requires { answer_bytes ≤ length out.old }
-    ensures { Says (Paper.refusal which number place field) out.old result out.new }
+// Which list is refused, if it is one of them, and why.
+fn refuse(out: &mut [u8], which: Option<Which>, reason: Reason) -> Said
+    requires room { answer_bytes ≤ length out.old }
+    requires fits { place_of reason < 2 ^ 32 }
+    ensures { Says (refused_as which reason) out.old result out.new }
 {
-    let numbers = [which, number, place, field];
+    let list = match which {
+        Some(w) => w.number() as u32,
+        None => 0,
+    };
+    let [number, place, field] = reason.numbers();
     Said {
-        length: printing::write_refusal(out, 0, &numbers),
+        length: printing::write_refusal(out, 0, &[list, number, place, field]),
         refused: true,
     }
 }
@@ -60,46 +65,28 @@ fn compare(first: &[i32], second: &[i32], wires: u32, out: &mut [u8]) -> Said
     ensures { Says (Paper.told (Alike.answer first.now second.now wires)) out.old result out.new }
 {
     match alike::alike(first, second, wires as usize) {
-        Answer::Refused(b) => {
-            let which = b.list;
-            let r = b.refusal;
-            refuse(
-                out,
-                which as u32,
-                r.number as u32,
-                r.place as u32,
-                r.field as u32,
-            )
-        }
-        Answer::Told(v) => tell(out, v),
+        Ok(v) => tell(out, v),
+        Err(b) => refuse(out, Some(b.list), Reason::List(b.refusal)),
     }
 }
 
-// The second list, from a place and a line on.
-fn with_second(
-    text: &[u8],
-    at: usize,
-    line: usize,
-    first: &[i32],
-    wires: u32,
-    out: &mut [u8],
-) -> Said
-    requires begins { Begins text.now at line }
+// The second list, from a line on.
+fn with_second(text: &[u8], line: usize, first: &[i32], wires: u32, out: &mut [u8]) -> Said
+    requires early { line < 2 ^ 16 }
     requires answer_bytes_in_bounds { answer_bytes ≤ length out.old }
-    ensures { Says (Paper.second_as wires first.now line (list_at list_gates line (drop at text.now))) out.old result out.new }
+    ensures { Says (Paper.second_as wires first.now line (list_at list_gates line text.now)) out.old result out.new }
 {
     let mut second = [0i32; GATE_WIDTH * LIST_GATES];
-    match reading::read_list(text, at, line, LIST_GATES, &mut second) {
-        Front::Wrong(k) => refuse(out, 2, 11, k as u32, 0),
-        Front::Large(k) => refuse(out, 2, 12, k as u32, 0),
-        Front::Whole(head, n, k, end) => {
-            if head.wires != wires {
-                return refuse(out, 2, 11, line as u32 + 1, 0);
+    match reading::read_list(text, line, LIST_GATES, &mut second) {
+        Err(w) => refuse(out, Some(Which::Second), Reason::from(w)),
+        Ok(list) => {
+            if list.head.wires != wires {
+                return refuse(out, Some(Which::Second), Reason::Malformed(line + 1));
             }
-            if end != text.len() {
-                return refuse(out, 0, 11, k as u32, 0);
+            if !list.rest.is_empty() {
+                return refuse(out, None, Reason::Malformed(list.line));
             }
-            compare(first, &second[..GATE_WIDTH * n], wires, out)
+            compare(first, &second[..GATE_WIDTH * list.gates], wires, out)
         }
     }
 }
@@ -110,14 +97,14 @@ fn answer(text: &[u8], out: &mut [u8]) -> Said
     ensures { Says (Paper.answer text.now) out.old result out.new }
 {
     if LIST_BYTES < text.len() {
-        return refuse(out, 0, 10, 0, 0);
+        return refuse(out, None, Reason::Long);
     }
     let mut first = [0i32; GATE_WIDTH * LIST_GATES];
-    match reading::read_list(text, 0, 1, LIST_GATES, &mut first) {
-        Front::Wrong(k) => refuse(out, 1, 11, k as u32, 0),
-        Front::Large(k) => refuse(out, 1, 12, k as u32, 0),
-        Front::Whole(head, n, k, end) => {
-            with_second(text, end, k, &first[..GATE_WIDTH * n], head.wires, out)
+    match reading::read_list(text, 1, LIST_GATES, &mut first) {
+        Err(w) => refuse(out, Some(Which::First), Reason::from(w)),
+        Ok(list) => {
+            let gates = &first[..GATE_WIDTH * list.gates];
+            with_second(list.rest, list.line, gates, list.head.wires, out)
         }
     }
 }

@@ -5,6 +5,10 @@ use Rattle.parity.specs.declared.Parity.{Parity}
 abbrev pub val : Parity → ℕ
 val p = p.hi * 2 ^ 64 + p.lo
 
--- the parity at a place of a table
-abbrev pub picked : List ℕ → ℕ → ℕ
-picked t i = get_or t (2 * i + 1) 0 * 2 ^ 64 + get_or t (2 * i) 0
+-- none of the columns
+abbrev pub none : Parity
+none = record { lo = 0; hi = 0 }
+
+-- the number of the parity at a place of a table
+abbrev pub picked : List Parity → ℕ → ℕ
+picked t i = val (get_or t i none)

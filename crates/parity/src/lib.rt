@@ -1,11 +1,16 @@
-// A parity: a set of columns 0 to 127, in two words. Methods take it by value and hand a new one back.
+// A parity: a set of columns 0 to 127, in two words. Methods and operators take it by value and hand a new one back.
 #![tactic(auto)]
 
-ghost use Rattle.std.specs.Prelude.{◌≡◌, ◌&&◌, ◌||◌, cond, [], ◌∷◌, ℕ, ◌-◌, ◌≤◌, ◌<◌, ◌^◌, eqb};
+ghost use Rattle.std.specs.Prelude.{◌≡◌, ◌&&◌, ◌||◌, cond, map, [], ◌∷◌, ℕ, ◌-◌, ◌≤◌, ◌<◌, ◌^◌, eqb, ◌==◌};
+ghost use Rattle.std.proofs.Common.{rules};
+ghost use Rattle.std.specs.Cmp.Rules.{comparing};
 ghost use Rattle.rules.specs.Bit.{bit, xor};
 ghost use Rattle.parity.specs.Columns.{clear_lowest, LowestIs, HighestIs};
 ghost use Rattle.parity.specs.View.{val, picked};
 
+use std::ops::{BitAnd, BitOr, BitXor};
+
+// Stays: two words and not a u128, as they stand in the rooms that a caller in another language lends.
 #[derive(Clone, Copy)]
 pub struct Parity {
     pub lo: u64,
@@ -60,33 +65,6 @@ impl Parity {
         }
     }
 
-    pub fn xor(self, other: Parity) -> Parity
-        ensures { val result ≡ xor (val self) (val other) }
-    {
-        Parity {
-            lo: self.lo ^ other.lo,
-            hi: self.hi ^ other.hi,
-        }
-    }
-
-    pub fn and(self, other: Parity) -> Parity
-        ensures { (i : ℕ) → bit (val result) i ≡ (bit (val self) i && bit (val other) i) }
-    {
-        Parity {
-            lo: self.lo & other.lo,
-            hi: self.hi & other.hi,
-        }
-    }
-
-    pub fn or(self, other: Parity) -> Parity
-        ensures { (i : ℕ) → bit (val result) i ≡ (bit (val self) i || bit (val other) i) }
-    {
-        Parity {
-            lo: self.lo | other.lo,
-            hi: self.hi | other.hi,
-        }
-    }
-
     // The parity itself, or none of its columns. A factor stands for the choice, so that a loop has no branch on data.
     pub fn kept(self, keep: bool) -> Parity
         ensures { val result ≡ cond keep (val self) 0 }
@@ -99,29 +77,19 @@ impl Parity {
     }
 
     // None and the parity, side by side, for `pick`.
-    pub fn table(self) -> [u64; 4]
-        ensures { result ≡ 0 ∷ 0 ∷ self.lo ∷ self.hi ∷ [] }
+    pub fn table(self) -> [Parity; 2]
+        ensures { map val result ≡ 0 ∷ val self ∷ [] }
     {
-        [0, 0, self.lo, self.hi]
+        [Parity::zero(), self]
     }
 
     // The parity of a table where the digit is 1, none of its columns where it is 0: taken by its place. A compiler makes a branch of a
     // product or a mask in a loop, and never of a load.
-    pub fn pick(t: &[u64; 4], digit: u64) -> Parity
+    pub fn pick(t: &[Parity; 2], digit: u64) -> Parity
         requires { digit ≤ 1 }
         ensures { val result ≡ picked t.now digit }
     {
-        let at = 2 * (digit as usize);
-        Parity {
-            lo: t[at],
-            hi: t[at + 1],
-        }
-    }
-
-    pub fn same(self, other: Parity) -> bool
-        ensures { result ≡ eqb (val self) (val other) }
-    {
-        (self.lo == other.lo) & (self.hi == other.hi)
+        t[digit as usize]
     }
 
     pub fn is_zero(self) -> bool
@@ -155,6 +123,7 @@ impl Parity {
     }
 
     // The lowest column, or 128 where there is none.
+    // Stays: a number for none too, since callers ask `is_zero` first and loops over columns test once.
     pub fn lowest(self) -> u32
         ensures { LowestIs (val self) result }
     {
@@ -194,6 +163,63 @@ impl Parity {
             }
         } else {
             self
+        }
+    }
+}
+
+// Stays: by hand, since a derived `==` speaks of the words, and every caller of their number.
+impl PartialEq for Parity {
+    ghost eq = { λ a b. val a == val b };
+
+    ghost laws = { Prim.search (comparing, rules) };
+
+    fn eq(&self, other: &Parity) -> bool {
+        (self.lo == other.lo) & (self.hi == other.hi)
+    }
+}
+
+impl Eq for Parity {
+    ghost laws = { Prim.search (comparing, rules) };
+}
+
+// The columns that are in one of the two and not in both.
+impl BitXor for Parity {
+    type Output = Parity;
+
+    ghost bitxor_gives = { λ a b r. val r ≡ xor (val a) (val b) };
+
+    fn bitxor(self, other: Parity) -> Parity {
+        Parity {
+            lo: self.lo ^ other.lo,
+            hi: self.hi ^ other.hi,
+        }
+    }
+}
+
+// The columns that are in both.
+impl BitAnd for Parity {
+    type Output = Parity;
+
+    ghost bitand_gives = { λ a b r. (i : ℕ) → bit (val r) i ≡ (bit (val a) i && bit (val b) i) };
+
+    fn bitand(self, other: Parity) -> Parity {
+        Parity {
+            lo: self.lo & other.lo,
+            hi: self.hi & other.hi,
+        }
+    }
+}
+
+// The columns that are in one of the two or in both.
+impl BitOr for Parity {
+    type Output = Parity;
+
+    ghost bitor_gives = { λ a b r. (i : ℕ) → bit (val r) i ≡ (bit (val a) i || bit (val b) i) };
+
+    fn bitor(self, other: Parity) -> Parity {
+        Parity {
+            lo: self.lo | other.lo,
+            hi: self.hi | other.hi,
         }
     }
 }

@@ -18,7 +18,7 @@ use Rattle.cnot_min.specs.declared.Counts.{Counts}
 use Rattle.cnot_min.specs.Minimizing.{told, Minimizes, Minimized}
 use Rattle.cnot_min.proofs.Rooms.{over-is}
 use Rattle.cnot_min.proofs.Promising.{not_done, minimizes}
-use Rattle.plain_check.specs.Refusing.{plain_verdict, Taken}
+use Rattle.plain_check.specs.Refusing.{plain_verdict}
 use Rattle.plain_check.proofs.Taking.{taken}
 use Rattle.plain_scan.specs.Sparing.{Sized}
 use Rattle.plain.specs.Plainly.{whole_after, PlainAfter, plain_after, Plainly, Agree}

@@ -15,6 +15,7 @@ use plan::Plan;
 use rules::{GATE_TERMS, GATE_WIDTH, MAX_COLUMNS, MAX_WIRES, STEP_WIDTH, TERM_WIDTH, WHOLE_GATES};
 
 // An accepted list, in rooms that are exactly what it needs.
+// Stays: `cnot_min` has the same steps over three rooms; one function for both would take the scan as a closure, whose contract is longer than this body.
 fn rewrite(
     list: &[i32],
     wires: usize,

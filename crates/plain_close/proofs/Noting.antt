@@ -1,37 +1,23 @@
--- Additions noted with no limit: what a row and a column take, and the map that they are.
-use mathlib.Core.Path.{◌≡◌, refl, sym, ap, ◌∙◌}
-use mathlib.Core.Bool.{Bool, true, false, cond}
+-- Additions noted with no limit: what a column takes, and the map that they are.
+use mathlib.Core.Path.{◌≡◌, refl, ap}
+use mathlib.Core.Bool.{true}
 use mathlib.Core.List.{List, []}
 use mathlib.Core.Option.{none, some}
 use Prim.Native.Nat.{ℕ, suc, ◌+◌, ◌*◌, ◌≤◌, ◌<◌}
 use native.Mathlib.Nat.{mul-le-mul_right}
 use native.Mathlib.Omega.{arith}
 use lib.IntN.{ℤ}
-use lib.ListN.{length, get_or}
-use Rattle.rules.specs.Close.{Adds, add_to, note, clear, diagonal, eq_rows, closing}
+use lib.ListN.{length}
+use Rattle.parity.specs.declared.Parity.{Parity}
+use Rattle.rules.specs.Close.{clear, diagonal, eq_rows, closing}
 use Rattle.rules.specs.Synth.{emit}
 use Rattle.rules.proofs.Counting.{size, column-size}
 use Rattle.rules.proofs.Steps.{closing_same}
-use Rattle.rows.specs.Rows.{rows_of, other_has}
-use Rattle.closing.specs.Additions.{held, wanted, Noted}
+use Rattle.closing.specs.Additions.{held, wanted}
 use Rattle.closing.specs.Emission.{reversed}
-use Rattle.closing.proofs.Entries.{add-held}
 use Rattle.closing.proofs.Columns.{held-size}
 use Rattle.writing.proofs.Following.{wrote_none}
-use Rattle.plain_close.specs.Map.{Next, Follows}
-
--- ---- a row
-
-module _ (c r k : ℕ) (m room : List ℕ) (b : Bool) (t : b ≡ other_has c r (get_or (rows_of m) r 0)) where
-  abbrev next : Adds
-  next = cond (other_has c r (get_or (rows_of m) r 0)) (note c r (held m room k)) (held m room k)
-
-  pub next-added : b ≡ true → (m' room' : List ℕ) → Noted k c r room room' → 2 * k + 1 < length room → rows_of m' ≡ add_to c r (rows_of m) → Next next k m' room' (k + 1)
-  next-added e m' room' w l f = let s : other_has c r (get_or (rows_of m) r 0) ≡ true = sym t ∙ e in
-      record { is = rw s (sym (add-held k m m' room room' c r w l f)); few = omega arith }
-
-  pub next-kept : b ≡ false → Next next k m room k
-  next-kept e = let s : other_has c r (get_or (rows_of m) r 0) ≡ false = sym t ∙ e in record { is = rw s refl; few = omega arith }
+use Rattle.plain_close.specs.Map.{Follows}
 
 -- ---- a column
 
@@ -40,9 +26,9 @@ pub column-room : (n c k len : ℕ) → c < n → k ≤ c * n → 2 * (n * n + 1
 column-room n c k len l h f = let e : suc c * n ≤ n * n = mul-le-mul_right n l in omega arith
 
 -- and it takes at most n
-pub column-ends : (m room m₁ room₁ m₂ room₂ : List ℕ) (n c k i j : ℕ) → c < n → diagonal n c (held m room k) ≡ some (held m₁ room₁ i)
+pub column-ends : (m m₁ m₂ : List Parity) (room room₁ room₂ : List ℕ) (n c k i j : ℕ) → c < n → diagonal n c (held m room k) ≡ some (held m₁ room₁ i)
     → held m₂ room₂ j ≡ clear c n 0 (held m₁ room₁ i) → 2 * k ≤ length room → 2 * j ≤ length room₂ → j ≤ k + n
-column-ends m room m₁ room₁ m₂ room₂ n c k i j l d e f g =
+column-ends m m₁ m₂ room room₁ room₂ n c k i j l d e f g =
     omega (arith, held-size m room k f, held-size m₂ room₂ j g, ap size e, column-size n c (held m room k) (held m₁ room₁ i) l d)
 
 -- ---- the map

@@ -11,48 +11,31 @@ ghost use Rattle.closing.specs.Emission.{Sent, backwards, reversed, Sendable, Ro
 ghost use Rattle.writing.specs.Written.{Wrote, Fits};
 ghost use Rattle.plain_close.specs.Map.{Column, Next, Filled, Ends, Closes};
 
-use join::Local;
-use rows::Found;
+use parity::Parity;
 
-// How many additions are noted; stuck where there is no end.
-#[derive(Clone, Copy)]
-pub enum Ended {
-    After(usize),
-    Stuck,
-}
-
-// How many gates stand in the room; nothing where there is no map.
-#[derive(Clone, Copy)]
-pub enum Closed {
-    To(usize),
-    Nothing,
-}
-
-// Where the diagonal bit of a column is 0, the first lower row that has it is added.
-fn diagonal(m: &mut [u64], steps: &mut [u32], k: usize, column: usize) -> Ended
+// Where the diagonal bit of a column is 0, the first lower row that has it is added. How many additions are noted then; none where no row
+// has it.
+// Stays: beside closing's, which has a limit that stops it; the search and the noted addition are shared.
+fn diagonal(m: &mut [Parity], steps: &mut [u32], k: usize, column: usize) -> Option<usize>
     requires { Column m.old steps.old k 1 column }
     ensures { Filled (Paper.diagonal (length (rows_of m.old)) column (held m.old steps.old k)) k m.new steps.new result }
 {
-    if rows::get(&*m, column).has(column as u32) {
-        return Ended::After(k);
+    if m[column].has(column as u32) {
+        return Some(k);
     }
-    let Found::At(donor) = rows::find(&*m, column as u32, column + 1) else {
-        return Ended::Stuck;
-    };
-    rows::add(&mut *m, donor, column);
-    closing::note(&mut *steps, k, donor, column);
-    Ended::After(k + 1)
+    let donor = rows::find(&*m, column as u32, column + 1)?;
+    closing::add_noted(m, steps, k, donor, column);
+    Some(k + 1)
 }
 
 // The column's own row is added to row r, if that is another row and has the bit.
-fn clear_row(m: &mut [u64], steps: &mut [u32], k: usize, column: usize, r: usize) -> usize
+fn clear_row(m: &mut [Parity], steps: &mut [u32], k: usize, column: usize, r: usize) -> usize
     requires column { Column m.old steps.old k 1 column }
     requires r_in_bounds { r < length (rows_of m.old) }
     ensures { Next (cond (other_has column r (get_or (rows_of m.old) r 0)) (Paper.note column r (held m.old steps.old k)) (held m.old steps.old k)) k m.new steps.new result }
 {
-    if rows::other(rows::get(&*m, r), column as u32, r) {
-        rows::add(&mut *m, column, r);
-        closing::note(&mut *steps, k, column, r);
+    if rows::other(m[r], column as u32, r) {
+        closing::add_noted(m, steps, k, column, r);
         k + 1
     } else {
         k
@@ -60,11 +43,11 @@ fn clear_row(m: &mut [u64], steps: &mut [u32], k: usize, column: usize, r: usize
 }
 
 // The same for every row.
-fn clear_column(m: &mut [u64], steps: &mut [u32], k: usize, column: usize) -> usize
+fn clear_column(m: &mut [Parity], steps: &mut [u32], k: usize, column: usize) -> usize
     requires { Column m.old steps.old k (length (rows_of m.old)) column }
     ensures { (held m.new steps.new result ≡ Paper.clear column (length (rows_of m.old)) 0 (held m.old steps.old k)) × (result ≤ k + length (rows_of m.old)) }
 {
-    let n = m.len() / 2;
+    let n = m.len();
     let mut noted = k;
     for r in 0..n {
         noted = clear_row(&mut *m, &mut *steps, noted, column, r);
@@ -72,73 +55,71 @@ fn clear_column(m: &mut [u64], steps: &mut [u32], k: usize, column: usize) -> us
     noted
 }
 
-// Takes the rows of `m` to the identity, column by column, and notes the additions.
-fn reduce(m: &mut [u64], steps: &mut [u32]) -> Ended
+// Takes the rows of `m` to the identity, column by column, and notes the additions. How many they are; none where there is no end.
+// Stays: beside closing's, which stops at a limit and stores in every turn; here a row is asked first, and nothing stops it.
+fn reduce(m: &mut [Parity], steps: &mut [u32]) -> Option<usize>
     requires { (length (rows_of m.old) ≤ 128) × (2 * (length (rows_of m.old) * length (rows_of m.old) + 1) ≤ length steps.old) }
     ensures { Ends (length (rows_of m.old)) (wanted (rows_of m.old)) steps.new result }
 {
-    let n = m.len() / 2;
+    let n = m.len();
     let mut k = 0;
-    let mut column = 0;
-    while column < n {
-        let Ended::After(filled) = diagonal(&mut *m, &mut *steps, k, column) else {
-            return Ended::Stuck;
-        };
+    for column in 0..n {
+        let filled = diagonal(&mut *m, &mut *steps, k, column)?;
         k = clear_column(&mut *m, &mut *steps, filled, column);
-        column += 1;
     }
-    Ended::After(k)
+    Some(k)
 }
 
 // The first n additions of the room as CNOTs, from the added row to the changed one, the last addition first.
+// Stays: beside closing's, since a written gate is counted against no ceiling; over one sink this would have an error that never comes.
 fn write_steps(names: &[u32], steps: &[u32], n: usize, whole: &mut [i32], k: usize) -> usize
     requires sent { Sent names.now steps.now n }
     requires fits { Fits whole.old k n }
     ensures { Wrote (Synth.emit names.now (backwards steps.now n)) whole.old k whole.new result }
 {
     let mut to = k;
-    let mut i = n;
-    while i > 0 {
-        let at = 2 * (i - 1);
-        let control = join::wire_of(names, Local(steps[at]));
-        let target = join::wire_of(names, Local(steps[at + 1]));
+    for i in (0..n).rev() {
+        let (control, target) = closing::wires_of(names, steps, i);
         to = writing::write_cnot(&mut *whole, to, control, target);
-        i -= 1;
     }
     to
 }
 
-// The rows of `m` taken to the identity, and the additions written in reverse.
-fn send(m: &mut [u64], names: &[u32], steps: &mut [u32], whole: &mut [i32], k: usize) -> Closed
-    requires sendable { Sendable m.old names.now steps.old (length (rows_of m.old) * length (rows_of m.old)) }
-    requires fits { Fits whole.old k (length (rows_of m.old) * length (rows_of m.old)) }
-    ensures { Closes (reversed (rows_of m.old)) names.now whole.old k whole.new result }
-{
-    let Ended::After(n) = reduce(m, &mut *steps) else {
-        return Closed::Nothing;
-    };
-    Closed::To(write_steps(names, &*steps, n, whole, k))
-}
-
-// Writes the CNOTs that take the rows `held` to the rows `wanted`: the wanted rows times the inverse of those held, and its additions.
-pub fn linear_synth(
-    held: &mut [u64],
-    wanted: &[u64],
-    right: &mut [u64],
+// The rows of `m` taken to the identity, and the additions written in reverse. How many gates stand there then; none where there is no map.
+fn send(
+    m: &mut [Parity],
     names: &[u32],
     steps: &mut [u32],
     whole: &mut [i32],
     k: usize,
-) -> Closed
+) -> Option<usize>
+    requires sendable { Sendable m.old names.now steps.old (length (rows_of m.old) * length (rows_of m.old)) }
+    requires fits { Fits whole.old k (length (rows_of m.old) * length (rows_of m.old)) }
+    ensures { Closes (reversed (rows_of m.old)) names.now whole.old k whole.new result }
+{
+    let n = reduce(m, &mut *steps)?;
+    Some(write_steps(names, &*steps, n, whole, k))
+}
+
+// Writes the CNOTs that take the rows `held` to the rows `wanted`: the wanted rows times the inverse of those held, and its additions.
+pub fn linear_synth(
+    held: &mut [Parity],
+    wanted: &[Parity],
+    right: &mut [Parity],
+    names: &[u32],
+    steps: &mut [u32],
+    whole: &mut [i32],
+    k: usize,
+) -> Option<usize>
     requires rooms { Rooms held.old wanted.now right.old names.now steps.old (length (rows_of wanted.now) * length (rows_of wanted.now)) }
     requires fits { Fits whole.old k (length (rows_of wanted.now) * length (rows_of wanted.now)) }
     ensures { Closes (Paper.closing (rows_of held.old) (rows_of wanted.now)) names.now whole.old k whole.new result }
 {
     if rows::equal(&*held, wanted) {
-        return Closed::To(k);
+        return Some(k);
     }
     if !closing::needed(&mut *held, wanted, right) {
-        return Closed::Nothing;
+        return None;
     }
     send(held, names, steps, whole, k)
 }

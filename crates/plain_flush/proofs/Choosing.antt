@@ -1,36 +1,34 @@
 -- The choice between two whole writings is the first engine's.
 --     fits_whole               gates that stand in a room lie in it
 --     stands-lined             a new writing with the line of the run's first gate
---     keeps-new, keeps-run     the new writing is copied, or the run
---     keeps-none               there is no new writing
+--     keeps-new, keeps-run     the new writing is copied, or the run, which is no dearer
+--     lined-none               there is no new writing
 use mathlib.Core.Path.{◌≡◌, refl, sym, ap, ◌∙◌}
-use mathlib.Core.Bool.{true, false, ◌&&◌, ◌||◌, true≢false}
+use mathlib.Core.Bool.{true, false, true≢false}
 use mathlib.Core.List.{List}
 use mathlib.Core.Option.{Option, none, some}
 use Prim.Native.Nat.{ℕ, ◌*◌, ◌≤◌}
 use native.Mathlib.Omega.{arith}
 use lib.IntN.{ℤ}
 use lib.ListN.{length, take, length-take}
-use lib.Dec.{eqb, leb, ltb}
-use borrow.Author.Tests.{leb-true}
 use Rattle.rules.specs.Limits.{width}
 use Rattle.rules.specs.Gate.{Gate}
 use Rattle.rules.specs.Numbers.{gates_of, numbers_of}
 use Rattle.rules.specs.Counts.{twos, cheaper}
 use Rattle.rules.specs.Synth.{synth, block_of, or_else, resynthesis}
-use Rattle.rules.specs.Budget.{Budget}
 use Rattle.rules.specs.Scan.{Writer}
 use Rattle.rules.specs.Lines.{stamp, line_of, lined}
-use Rattle.rules.proofs.Bits.{and_left}
 use Rattle.rules.proofs.Reading.{length-numbers, read-written}
 use Rattle.rules.proofs.Stamping.{stamp-length, stamp-twos, stamp-cheaper}
 use Rattle.gate.specs.Writing.{stamped}
 use Rattle.gate.proofs.Lines.{stamped-gates}
-use Rattle.budget.specs.declared.Pushed.{Pushed}
+use Rattle.std.specs.Prelude.{Result, Ok, Err}
+use Rattle.budget.specs.declared.Budget as Code
+use Rattle.budget.specs.declared.Spent.{Spent}
 use Rattle.budget.specs.View.{view}
 use Rattle.writing.specs.Written.{Stands}
 use Rattle.flush.specs.Choice.{keeps, Writes, Exact, Settles}
-use Rattle.flush.proofs.Keeping.{self-not-cheaper, kept, copied}
+use Rattle.flush.proofs.Keeping.{keeps-cheaper, self-not-cheaper, kept, copied}
 use Rattle.plain_flush.specs.Keeping.{Keeps}
 
 -- ---- a whole writing
@@ -47,18 +45,13 @@ stands-lined write gs whole k s =
 
 -- ---- the choice
 
--- what is kept is no longer than the run
-pub keeps-short : (b : Budget) → keeps b ≡ true → b.all ≤ b.max_all
-keeps-short b e =
-    leb-true b.all b.max_all (and_left (leb b.all b.max_all) (ltb b.two b.max_two || (eqb b.two b.max_two && ltb b.all b.max_all)) e)
-
 -- the counts of the new writing under those of the run
-abbrev pub counted : ℕ → ℕ → ℕ → ℕ → Pushed
-counted two all maxtwo maxall = record { budget = record { two = two; all = all; maxtwo = maxtwo; maxall = maxall }; within = true }
+abbrev pub counted : ℕ → ℕ → ℕ → ℕ → Result Code.Budget Spent
+counted two all maxtwo maxall = Ok (record { two = two; all = all; maxtwo = maxtwo; maxall = maxall })
 
 module _ (write : Writer) (run whole : List ℤ) (k : ℕ) (x : Exact run) (s : Stands whole k (write (gates_of run)))
     (a b c : ℕ) (ea : a ≡ twos (gates_of (take (width * k) whole))) (eb : b ≡ twos (gates_of run)) (ec : c ≡ length (gates_of run)) where
-  new_is : a ≡ twos (write (gates_of run))
+  pub new_is : a ≡ twos (write (gates_of run))
   new_is =
       let e : take (width * k) whole ≡ numbers_of (write (gates_of run)) = ap (λ (n : ℕ). take (width * n) whole) s.count ∙ s.text in
       ea ∙ ap (λ (l : List ℤ). twos (gates_of l)) e ∙ ap twos (read-written (write (gates_of run)))
@@ -75,21 +68,21 @@ module _ (write : Writer) (run whole : List ℤ) (k : ℕ) (x : Exact run) (s : 
       let h : Settles write run whole (record { gates = k; replaced = true }) = kept write run whole (counted a k b c) made x t in
       record { settles = record { text = e ∙ h.text; gates = h.gates; replaced = h.replaced }; twos = new_is }
 
-  pub keeps-run : keeps (view (record { two = a; all = k; maxtwo = b; maxall = c })) ≡ false → (place : List ℤ) (n : ℕ) → place ≡ run → n ≡ length (gates_of run)
-      → Keeps write run place (record { flushed = record { gates = n; replaced = false }; twos = a })
-  keeps-run t place n e f = record { settles = copied write run whole (counted a k b c) made x t place n e f; twos = new_is }
+  -- it is not cheaper than the run
+  pub dearer : keeps (view (record { two = a; all = k; maxtwo = b; maxall = c })) ≡ false → cheaper (write (gates_of run)) (gates_of run) ≡ false
+  dearer t = sym (keeps-cheaper whole _ (write (gates_of run)) (gates_of run) (record { text = s.text; two = new_is; all = s.count }) eb ec) ∙ t
 
--- ---- no new writing: it would be the run itself, with one line
+-- ---- the run stays
 
 -- stopped before it began
-abbrev pub stopped : Pushed
-stopped = record { budget = record { two = 0; all = 0; maxtwo = 0; maxall = 0 }; within = false }
+abbrev pub stopped : Result Code.Budget Spent
+stopped = Err (record { 0 = record { two = 0; all = 0; maxtwo = 0; maxall = 0 } })
 
-pub keeps-none : (write : Writer) (run place : List ℤ) (n a : ℕ) → Exact run → cheaper (write (gates_of run)) (gates_of run) ≡ false → twos (write (gates_of run)) ≡ twos (gates_of run)
-    → place ≡ run → n ≡ length (gates_of run) → a ≡ twos (gates_of run) → Keeps write run place (record { flushed = record { gates = n; replaced = false }; twos = a })
-keeps-none write run place n a x e f g h i =
+pub keeps-run : (write : Writer) (run place : List ℤ) (n a : ℕ) → Exact run → cheaper (write (gates_of run)) (gates_of run) ≡ false → a ≡ twos (write (gates_of run))
+    → place ≡ run → n ≡ length (gates_of run) → Keeps write run place (record { flushed = record { gates = n; replaced = false }; twos = a })
+keeps-run write run place n a x e f g h =
     let t : Writes write (gates_of run) run stopped = record { made = λ w. absurd (true≢false (sym w)); stopped = λ _. e } in
-    record { settles = copied write run run stopped t x refl place n g h; twos = i ∙ sym f }
+    record { settles = copied write run run stopped t x refl place n g h; twos = f }
 
 module _ (gs : List Gate) where
   pub lined-some : (new : List Gate) → synth (block_of gs) ≡ some new → resynthesis gs ≡ new

@@ -11,7 +11,8 @@ use Rattle.rules.specs.Numbers.{gates_of}
 use Rattle.rules.specs.Fold.{Block}
 use Rattle.rules.specs.Synth.{block_of}
 use Rattle.rules.proofs.Ceiling.{walk-fits, terms-few}
-use Rattle.walk.specs.Stack.{node_width}
+use Rattle.parity.specs.declared.Parity.{Parity}
+use Rattle.walk.specs.declared.Slot.{Slot}
 use Rattle.block.specs.declared.Block as State
 use Rattle.block.specs.View.{terms_at}
 use Rattle.flush.specs.Choice as First
@@ -19,22 +20,23 @@ use Rattle.flush.specs.Choice.{Flushable}
 use Rattle.flush.proofs.Cutting as Cutting
 use Rattle.plain_flush.specs.Keeping.{Fitted, Lent}
 
-module _ (run place : List ℤ) (b : State.Block) (table names rows room nodes held right steps : List ℕ) (whole : List ℤ)
-    (f : Flushable run b table names rows room) (l : Lent run place b nodes held right steps whole) where
-  pub first : First.Lent run place nodes held right steps
-  first = record { many = omega (arith, l.many); fits = l.fits; work = l.work; long = omega (arith, l.many, l.noted) }
+module _ (run place : List ℤ) (b : State.Block) (table names : List ℕ) (rows : List Parity) (room steps : List ℕ) (whole : List ℤ)
+    (f : Flushable run b table names rows room) (l : Lent run place b steps whole) where
+  pub first : First.Lent run place steps
+  first = record { many = omega (arith, l.many); fits = l.fits; long = omega (arith, l.many, l.noted) }
 
   -- each room has the part that the block needs
-  pub enough : Cutting.Enough run place b table names rows room nodes held right steps f first
-  enough = Cutting.enough run place b table names rows room nodes held right steps f first
+  pub enough : Cutting.Enough run place b table names rows room steps f first
+  enough = Cutting.enough run place b table names rows room steps f first
 
   square : b.wires * b.wires ≤ plain_columns * plain_columns
   square = let e : b.wires * b.wires ≤ plain_columns * b.wires = mul-le-mul_right b.wires l.narrow in omega (arith, l.narrow)
 
-  pub fitted : Fitted run place b (take b.wires names) (take (2 * b.wires) rows) (take (term_width * b.terms) room) (take (node_width * (b.wires + 1)) nodes)
-      (take (2 * b.wires) held) (take (2 * b.wires) right) steps whole
-  fitted =
-      let p = Cutting.fitted run place b table names rows room nodes held right steps f first in
+  pub fitted : (nodes : List Slot) (held right : List Parity) → b.wires + 1 ≤ length nodes → b.wires ≤ length held → b.wires ≤ length right
+      → Fitted run place b (take b.wires names) (take b.wires rows) (take (term_width * b.terms) room) (take (b.wires + 1) nodes)
+      (take b.wires held) (take b.wires right) steps whole
+  fitted nodes held right ln lh lr =
+      let p = Cutting.fitted run place b table names rows room steps f first nodes held right ln lh lr in
       let few : length (terms_at b (take (term_width * b.terms) room)) ≡ length (block_of (gates_of run)).terms = ap (λ (x : Block). length x.terms) p.same in
       record {
         fits = l.fits;

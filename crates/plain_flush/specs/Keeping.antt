@@ -8,7 +8,9 @@ use Rattle.rules.specs.Scan.{Writer}
 use Rattle.join.specs.Tables.{Leaves}
 use Rattle.block.specs.declared.Block as State
 use Rattle.block.specs.View.{block_at}
-use Rattle.flush.specs.Choice.{Settles, Workroom}
+use Rattle.parity.specs.declared.Parity.{Parity}
+use Rattle.walk.specs.declared.Slot.{Slot}
+use Rattle.flush.specs.Choice.{Settles}
 use Rattle.plain_synth.specs.Whole as Whole
 use Rattle.plain_flush.specs.declared.Kept.{Kept}
 
@@ -18,7 +20,7 @@ pub record Keeps (write : Writer) (run place' : List ℤ) (r : Kept) : Type 0 wh
   pub twos : r.twos ≡ twos (write (gates_of run))
 
 -- the rooms are the parts that the block needs, and hold the run's block; the place is as long as the run
-pub record Fitted (run place : List ℤ) (b : State.Block) (names rows room nodes from spare steps : List ℕ) (whole : List ℤ) : Type 0 where
+pub record Fitted (run place : List ℤ) (b : State.Block) (names : List ℕ) (rows : List Parity) (room : List ℕ) (nodes : List Slot) (from spare : List Parity) (steps : List ℕ) (whole : List ℤ) : Type 0 where
   pub fits : length place ≡ length run
   pub same : block_at b names rows room ≡ block_of (gates_of run)
   pub lent : Whole.Lent b names rows room nodes from spare steps whole
@@ -27,12 +29,11 @@ pub record Fitted (run place : List ℤ) (b : State.Block) (names rows room node
 abbrev pub additions : ℕ
 additions = 2 * (plain_columns * plain_columns + 1)
 
--- a run of the plain engine's length, whose block has few wires; the place is as long as the run; rooms for the engine, whatever the block
-pub record Lent (run place : List ℤ) (b : State.Block) (nodes from spare steps : List ℕ) (whole : List ℤ) : Type 0 where
+-- a run of the plain engine's length, whose block has few wires; the place is as long as the run; steps and a room that are enough, whatever the block
+pub record Lent (run place : List ℤ) (b : State.Block) (steps : List ℕ) (whole : List ℤ) : Type 0 where
   pub many : length (gates_of run) ≤ plain_gates
   pub narrow : b.wires ≤ plain_columns
   pub fits : length place ≡ length run
-  pub work : Workroom nodes from spare
   pub noted : additions ≤ length steps
   pub long : width * whole_gates ≤ length whole
 

@@ -15,31 +15,31 @@ ghost use Rattle.plain_flush.specs.Keeping.{Keeps, Fitted, Lent, Flushes};
 
 use block::Block;
 use budget::Budget;
-use flush::Flushed;
-use plain_close::Closed;
+use flush::{Flushed, STACK};
+use parity::Parity;
 use plan::Plan;
-use rules::{GATE_WIDTH, TERM_WIDTH};
-use walk::NODE_WIDTH;
+use rules::{GATE_WIDTH, MAX_COLUMNS, TERM_WIDTH};
+use walk::Slot;
 
 // What the place then has, and how many CNOT and CZ the new writing has, kept or not.
-#[derive(Clone, Copy)]
+#[derive(Clone, Copy, Debug, PartialEq, Eq)]
 pub struct Kept {
     pub flushed: Flushed,
     pub twos: usize,
 }
 
-// The run at the place: its new writing is not cheaper, and has as many CNOT and CZ.
-fn stay(run: &[i32], place: &mut [i32]) -> Kept
+// The run at the place, since its new writing, of `new` CNOT and CZ, is not cheaper.
+fn stay(run: &[i32], place: &mut [i32], new: usize) -> Kept
     requires { length place.old ≡ length run.now }
-    ensures { (write : Writer) → Exact run.now → cheaper (write (gates_of run.now)) (gates_of run.now) ≡ false → twos (write (gates_of run.now)) ≡ twos (gates_of run.now) → Keeps write run.now place.new result }
+    ensures { (write : Writer) → Exact run.now → cheaper (write (gates_of run.now)) (gates_of run.now) ≡ false → new ≡ twos (write (gates_of run.now)) → Keeps write run.now place.new result }
 {
-    flush::copy(run, place);
+    place.copy_from_slice(run);
     Kept {
         flushed: Flushed {
             gates: run.len() / GATE_WIDTH,
             replaced: false,
         },
-        twos: gate::count_two(run),
+        twos: new,
     }
 }
 
@@ -57,7 +57,7 @@ fn keep(run: &[i32], place: &mut [i32], whole: &[i32], k: usize) -> Kept
         maxall: run.len() / GATE_WIDTH,
     };
     if flush::cheaper(counts) {
-        flush::copy(&whole[..end], &mut place[..end]);
+        place[..end].copy_from_slice(&whole[..end]);
         Kept {
             flushed: Flushed {
                 gates: k,
@@ -66,14 +66,7 @@ fn keep(run: &[i32], place: &mut [i32], whole: &[i32], k: usize) -> Kept
             twos: new,
         }
     } else {
-        flush::copy(run, place);
-        Kept {
-            flushed: Flushed {
-                gates: run.len() / GATE_WIDTH,
-                replaced: false,
-            },
-            twos: new,
-        }
+        stay(run, place, new)
     }
 }
 
@@ -83,11 +76,11 @@ fn settle(
     place: &mut [i32],
     block: Block,
     names: &[u32],
-    rows: &[u64],
+    rows: &[Parity],
     room: &mut [u64],
-    nodes: &mut [u64],
-    held: &mut [u64],
-    right: &mut [u64],
+    nodes: &mut [Slot],
+    held: &mut [Parity],
+    right: &mut [Parity],
     steps: &mut [u32],
     whole: &mut [i32],
     plan: Plan,
@@ -96,7 +89,7 @@ fn settle(
     requires exact { Exact run.now }
     ensures { Keeps (writer_of (view plan)) run.now place.new result }
 {
-    let Closed::To(k) = plain_synth::resynthesize(
+    let Some(k) = plain_synth::resynthesize(
         block,
         names,
         rows,
@@ -107,7 +100,7 @@ fn settle(
         steps,
         &mut *whole,
     ) else {
-        return stay(run, place);
+        return stay(run, place, gate::count_two(run));
     };
     gate::stamp(&mut *whole, k, gate::line(run));
     keep(run, place, &*whole, k)
@@ -121,34 +114,33 @@ pub fn flush(
     block: Block,
     table: &mut [u32],
     names: &[u32],
-    rows: &[u64],
+    rows: &[Parity],
     room: &mut [u64],
-    nodes: &mut [u64],
-    held: &mut [u64],
-    right: &mut [u64],
+    nodes: &mut [Slot; STACK],
+    held: &mut [Parity; MAX_COLUMNS],
+    right: &mut [Parity; MAX_COLUMNS],
     steps: &mut [u32],
     whole: &mut [i32],
     plan: Plan,
 ) -> Kept
     requires flushable { Flushable run.now block table.old names.now rows.now room.old }
-    requires lent { Lent run.now place.old block nodes.old held.old right.old steps.old whole.old }
+    requires lent { Lent run.now place.old block steps.old whole.old }
     ensures { Flushes (writer_of (view plan)) run.now place.new table.new names.now result }
 {
     let wires = block.wires;
     let n = wires as usize;
-    let matrix = 2 * n;
-    let stack = NODE_WIDTH * (n + 1);
+    let stack = n + 1;
     let terms = TERM_WIDTH * block.terms;
     let r = settle(
         run,
         place,
         block,
         &names[..n],
-        &rows[..matrix],
+        &rows[..n],
         &mut room[..terms],
         &mut nodes[..stack],
-        &mut held[..matrix],
-        &mut right[..matrix],
+        &mut held[..n],
+        &mut right[..n],
         steps,
         whole,
         plan,

@@ -1,6 +1,7 @@
 -- From what the plain engine says to the first engine's pass in rooms exactly as long as a list needs.
 use mathlib.Core.Path.{◌≡◌, refl, sym, ap, ◌∙◌}
-use mathlib.Core.List.{List, ◌++◌}
+use mathlib.Core.List.{List}
+use Rattle.std.specs.Prelude.{Result, Ok, Err}
 use Prim.Native.Nat.{ℕ, ◌*◌, ◌/◌, ◌≤◌}
 use native.Mathlib.Omega.{arith}
 use lib.IntN.{ℤ}
@@ -8,20 +9,20 @@ use lib.ListN.{length}
 use Rattle.rules.specs.Limits.{width, term_width, step_width, term_entries, step_entries, clamp_qubits, whole_gates}
 use Rattle.rules.specs.Refusal.{Verdict, accepted, refused}
 use Rattle.rules.proofs.Accepting.{place_of}
+use Rattle.gate.specs.declared.Refusal.{Refusal}
 use Rattle.cnot_min.specs.Minimizing.{told, counted}
-use Rattle.cnot_min.specs.declared.Answer.{Answer}
-use Rattle.cnot_min.specs.declared.Answer.TheVariants.{Refused, Done}
+use Rattle.cnot_min.specs.declared.Counts.{Counts}
 use Rattle.spelling.specs.Texts.{Head}
 use Rattle.saying.specs.Answer.{exact}
 use Rattle.saying.specs.Clauses.{Few}
 use Rattle.saying.proofs.Checking.{exact-place}
+use Rattle.fitting.specs.Clauses.{Denied, Written, Fits}
 use Rattle.fitting.proofs.Fitting as First
 use Rattle.fitting.proofs.Fitting.{as_verdict}
 use Rattle.plain_check.specs.Refusing.{plain_verdict}
 use Rattle.plain_check.proofs.Taking.{taken, plain-place}
 use Rattle.plain.specs.Plainly.{plain_as, plain_after, Plainly}
 use Rattle.plain_list.specs.Answer.{plain_exact}
-use Rattle.plain_list.specs.Clauses.{Fits}
 
 -- what the plain engine accepts in exact rooms, the first engine accepts
 pub plain-exact : (h : Head) (l : List ℤ) → plain_exact h l ≡ accepted → exact h l ≡ accepted
@@ -47,14 +48,19 @@ module _ (h : Head) (l out : List ℤ) (terms steps : List ℕ) (whole out' : Li
   unfolding plain_exact
   verdict-is = rw (eo, et, es, ew)
 
-  abbrev Says : Answer → Type 0
+  abbrev Says : Result Counts Refusal → Type 0
   Says a = Plainly l h.wires h.bits h.qubits h.terms out terms steps whole a out' terms' steps' whole'
 
-  is : (a : Answer) → Says a → as_verdict (told a) ≡ plain_exact h l
+  is : (a : Result Counts Refusal) → Says a → as_verdict (told a) ≡ plain_exact h l
   unfolding plain_after
   is a p = ap as_verdict p.answer ∙ judged-as verdict l h.qubits h.terms out terms steps whole ∙ verdict-is
 
-  -- the rest of a longer room doesn't matter
-  pub fits : (a : Answer) (rest : List ℤ) → Says a → Fits h l a (out' ++ rest)
-  fits (Refused r) rest p = record { is = sym (is (Refused r) p); place = omega (arith, ap place_of (is (Refused r) p), place h l, few.few, exact-place h l) }
-  fits (Done c) rest p = record { is = sym (is (Done c) p); made = First.fits h l out terms steps out' terms' steps' few eo et es (Done c) rest (p.same (counted c) refl) }
+  fits-refused : (r : Refusal) → Says (Err r) → Denied plain_exact h l r
+  fits-refused r p = record { is = sym (is (Err r) p); place = omega (arith, ap place_of (is (Err r) p), place h l, few.few, exact-place h l) }
+
+  fits-done : (c : Counts) → Says (Ok c) → Written plain_exact h l c out'
+  fits-done c p = record { is = sym (is (Ok c) p); made = (First.fits h l out terms steps out' terms' steps' few eo et es (Ok c) (p.same (counted c) refl)).made }
+
+  pub fits : (a : Result Counts Refusal) → Says a → Fits plain_exact h l a out'
+  fits (Err r) p = fits-refused r p
+  fits (Ok c) p = fits-done c p

@@ -1,4 +1,3 @@
 mod Cases
 mod Fitting
-mod Answering
 pub mod Keeping

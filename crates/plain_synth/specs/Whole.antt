@@ -1,6 +1,8 @@
 -- A block's resynthesis, whole, at the beginning of a room.
-use Rattle.std.specs.Prelude.{◌≡◌, List, ℕ, ◌+◌, ◌*◌, ℤ, length}
-use Rattle.std.proofs.Math.Option.{Option, none, some}
+use Rattle.std.specs.Prelude.{◌≡◌, List, ℕ, ◌+◌, ◌*◌, ℤ, length, Option, Some, None}
+use Rattle.std.proofs.Math.Option as Maybe
+use Rattle.parity.specs.declared.Parity.{Parity}
+use Rattle.walk.specs.declared.Slot.{Slot}
 use Rattle.rules.specs.Gate.{Gate}
 use Rattle.rules.specs.Walk.{phase_walk}
 use Rattle.rules.specs.Synth.{emit}
@@ -8,25 +10,23 @@ use Rattle.block.specs.declared.Block as State
 use Rattle.block.specs.View.{terms_at}
 use Rattle.writing.specs.Written.{Stands, Fits}
 use Rattle.synth.specs.Resynthesis.{Rooms}
-use Rattle.plain_close.specs.declared.Closed.{Closed}
-use Rattle.plain_close.specs.declared.Closed.TheVariants.{To, Nothing}
 
 -- the gates of the block's phase walk
 abbrev pub walk_of : State.Block → List ℕ → List ℕ → List Gate
 walk_of b names room = emit names (phase_walk b.wires (terms_at b room))
 
 -- the rooms of a block of n wires, with steps for n squared additions, and a room that is long enough for the walk, for that many CNOTs and for an x on each wire
-pub record Lent (b : State.Block) (names rows room nodes from spare steps : List ℕ) (whole : List ℤ) : Type 0 where
+pub record Lent (b : State.Block) (names : List ℕ) (rows : List Parity) (room : List ℕ) (nodes : List Slot) (from spare : List Parity) (steps : List ℕ) (whole : List ℤ) : Type 0 where
   pub rooms : Rooms b names rows room nodes from spare steps (b.wires * b.wires)
   pub long : Fits whole 0 (length (walk_of b names room) + b.wires * b.wires + b.wires)
 
 -- these gates, k of them, are what was asked for, and the room begins with them
-pub record Made (o : Option (List Gate)) (whole : List ℤ) (k : ℕ) : Type 0 where
+pub record Made (o : Maybe.Option (List Gate)) (whole : List ℤ) (k : ℕ) : Type 0 where
   pub gates : List Gate
-  pub is : o ≡ some gates
+  pub is : o ≡ Maybe.some gates
   pub stands : Stands whole k gates
 
 -- made; or there are none
-abbrev pub Resynthesizes : Option (List Gate) → List ℤ → Closed → Type 0
-Resynthesizes o whole (To k) = Made o whole k
-Resynthesizes o whole Nothing = o ≡ none
+abbrev pub Resynthesizes : Maybe.Option (List Gate) → List ℤ → Option ℕ → Type 0
+Resynthesizes o whole (Some k) = Made o whole k
+Resynthesizes o whole None = o ≡ Maybe.none

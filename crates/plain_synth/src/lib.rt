@@ -1,4 +1,5 @@
 // A block's resynthesis written to its end at the beginning of a room: phase walk, closing map, flips. Nothing is compared on the way.
+// Stays: beside `synth` with functions of its own, since nothing here counts or stops; over one sink each would have an error that never comes.
 #![tactic(auto)]
 
 ghost use Rattle.std.specs.Prelude.{◌≡◌, ◌≤◌, ◌<◌, ◌^◌, length};
@@ -18,7 +19,7 @@ ghost use Rattle.plain_synth.specs.Whole.{walk_of, Lent, Resynthesizes};
 use block::Block;
 use join::{Local, Wire};
 use parity::Parity;
-use plain_close::Closed;
+use walk::Slot;
 
 // An x, if the constant is true.
 fn write_flip(on: bool, q: Wire, whole: &mut [i32], k: usize) -> usize
@@ -37,12 +38,9 @@ fn write_flips(flips: Parity, n: u32, names: &[u32], whole: &mut [i32], k: usize
 {
     let mut to = k;
     for i in 0..n {
-        to = write_flip(
-            flips.has(i),
-            join::wire_of(names, Local(i)),
-            &mut *whole,
-            to,
-        );
+        let on = flips.has(i);
+        let q = join::wire_of(names, Local(i));
+        to = write_flip(on, q, &mut *whole, to);
     }
     to
 }
@@ -52,8 +50,8 @@ fn write_walk(
     block: Block,
     names: &[u32],
     room: &mut [u64],
-    nodes: &mut [u64],
-    held: &mut [u64],
+    nodes: &mut [Slot],
+    held: &mut [Parity],
     whole: &mut [i32],
 ) -> usize
     requires walkable { Walkable block names.now room.old nodes.old held.old }
@@ -64,34 +62,22 @@ fn write_walk(
     plain_walk::phase_walk(room, block.terms, block.wires, nodes, held, names, whole, 0)
 }
 
-// The block written again: the phase walk, the closing map to the block's own rows, the flips. How many gates they are; nothing where there is no closing map.
+// The block written again: the phase walk, the closing map to the block's own rows, the flips. How many gates they are; none where there is no closing map.
 pub fn resynthesize(
     block: Block,
     names: &[u32],
-    rows: &[u64],
+    rows: &[Parity],
     room: &mut [u64],
-    nodes: &mut [u64],
-    held: &mut [u64],
-    right: &mut [u64],
+    nodes: &mut [Slot],
+    held: &mut [Parity],
+    right: &mut [Parity],
     steps: &mut [u32],
     whole: &mut [i32],
-) -> Closed
+) -> Option<usize>
     requires { Lent block names.now rows.now room.old nodes.old held.old right.old steps.old whole.old }
     ensures { Resynthesizes (synth (block_at block names.now rows.now room.old)) whole.new result }
 {
-    let flips = block.flips;
-    let n = block.wires;
     let walked = write_walk(block, names, room, nodes, &mut *held, &mut *whole);
-    let Closed::To(closed) = plain_close::linear_synth(
-        held,
-        rows,
-        right,
-        names,
-        steps,
-        &mut *whole,
-        walked,
-    ) else {
-        return Closed::Nothing;
-    };
-    Closed::To(write_flips(flips, n, names, whole, closed))
+    let closed = plain_close::linear_synth(held, rows, right, names, steps, &mut *whole, walked)?;
+    Some(write_flips(block.flips, block.wires, names, whole, closed))
 }

@@ -89,7 +89,7 @@ module _ (names : List ℕ) (n : ℕ) (k : length names ≡ n) (ss old : List Sl
       record {
         wires = w;
         sound = sound-at (length names) ss 1 end 0 refl (first c) (first_slot names n k ss old c e wide v ts end f) (omega arith)
-            (record { target = λ q. absurd (q refl); owed = λ q. absurd (q refl); apart = λ q. absurd (q refl); differ = λ q. absurd (q refl) }) tt;
+            (record { target = λ t q. cc; owed = λ p t q. cc; apart = λ t q. cc; differ = λ p t q. cc }) tt;
         stairs = subst (Stairs (length names)) (sym is) (subst (λ (j : ℕ). Stairs j (node (2 ^ n - 1) free ts ∷ [])) (sym k) (stairs-first n ts));
         fits = omega arith;
         wide = rw e (simp length-set wide);

@@ -1,7 +1,6 @@
 -- One visit by each of document 01's four rules: what it makes, and that there is room for it.
 use mathlib.Core.Path.{◌≡◌, refl, ap, ◌∙◌, subst}
 use mathlib.Core.Logic.{◌≢◌}
-use mathlib.Core.Bool.{true, false}
 use mathlib.Core.List.{List, [], ◌∷◌}
 use Prim.Native.Nat.{ℕ, ◌+◌, ◌≤◌, ◌<◌}
 use native.Mathlib.Omega.{arith}
@@ -10,7 +9,8 @@ use lib.ListN.{length, get_or}
 use lib.Seq.{slice}
 use Rattle.rules.specs.Fold.{Term}
 use Rattle.rules.specs.Gate.{Gate}
-use Rattle.rules.specs.Walk.{Step, cn, Aim, free, on, owes, Node, leaf, held, node, cross_nodes}
+use Rattle.rules.specs.Walk.{Step, cn, free, on, owes, Node, leaf, held, node, cross_nodes}
+use Rattle.rules.specs.Walk as Walk
 use Rattle.rules.specs.Synth.{emit}
 use Rattle.rules.specs.Left.{left, Leads}
 use Rattle.rules.proofs.Steps.{emit-append, emit-one}
@@ -18,7 +18,9 @@ use Rattle.parity.specs.View.{val}
 use Rattle.writing.specs.Written.{Wrote, Fits}
 use Rattle.writing.proofs.Following.{wrote_none, fits-first}
 use Rattle.walk.specs.declared.Slot.{Slot}
-use Rattle.walk.specs.Stack.{no_slot, aim_to, owing, stack_of, Aimed, Branched}
+use Rattle.walk.specs.declared.Aim.TheVariants.{Owes}
+use Rattle.walk.specs.Stack.{no_slot, aim_to, target_of, stack_of, Aimed, Branched}
+use Rattle.walk.proofs.Aims.{NoneOwed}
 use Rattle.walk.proofs.Chaining.{added}
 use Rattle.walk.proofs.Nodes as Nodes
 use Rattle.plain_walk.specs.Place.{Place, stack, Roomy, Standing, Walks, Stepped, Paid}
@@ -71,53 +73,53 @@ module _ (names : List ℕ) (p : Place) (h : Standing names p) (at : ℕ) (k : p
 
   module _ (q : d.start ≢ p.end) where
     -- rule 2: what is owed is paid
-    module _ (o : owing d ≡ true) where
-      leads-pay : Leads (length names) (stack p) (cn d.owed d.target ∷ []) (node (val d.cands) (on d.target) set ∷ cross_nodes d.owed d.target below)
-      leads-pay = Nodes.pay-leads (length names) p.slots p.terms p.depth p.end at k d e h.sound h.stairs h.fits q o
+    module _ (x t : ℕ) (o : d.aim ≡ Owes x t) where
+      leads-pay : Leads (length names) (stack p) (cn x t ∷ []) (node (val d.cands) (on t) set ∷ cross_nodes x t below)
+      leads-pay = Nodes.pay-leads (length names) p.slots p.terms p.depth p.end at k d e h.sound h.stairs h.fits q x t o
 
       pub pay-roomy : Fits p.whole p.made 1
       pay-roomy =
-          subst (λ (gs : List Gate). Fits p.whole p.made (length gs)) (emit-one names d.owed d.target)
-          (first-roomy names (length names) (stack p) _ (cn d.owed d.target ∷ []) p.whole p.made leads-pay h.room)
+          subst (λ (gs : List Gate). Fits p.whole p.made (length gs)) (emit-one names x t)
+          (first-roomy names (length names) (stack p) _ (cn x t ∷ []) p.whole p.made leads-pay h.room)
 
       pub step-pay : (ss : List Slot) (ts : List Term) (m : List ℕ) (whole : List ℤ) (r : ℕ)
-          → Paid names d at p.terms ts p.slots ss p.rows m p.whole p.made whole r → length ts ≡ length p.terms
+          → Paid names x t d at p.terms ts p.slots ss p.rows m p.whole p.made whole r → length ts ≡ length p.terms
           → Stepped names p (place ss ts m whole p.depth p.end r)
       step-pay ss ts m whole r pd len =
           record {
-            steps = cn d.owed d.target ∷ [];
+            steps = cn x t ∷ [];
             next = _;
             leads = leads-pay;
-            walks = record { wrote = pd.wrote; rows = pd.rows ∙ added d.owed d.target p.rows };
-            stack = Nodes.pay-stack (length names) p.slots p.terms p.depth p.end at k d e h.sound h.stairs h.fits q o ss ts pd.slots h.wide pd.terms;
-            sound = Nodes.pay-laid (length names) p.slots p.terms p.depth p.end at k d e h.sound h.stairs h.fits q o ss ts pd.slots h.wide pd.terms;
+            walks = record { wrote = pd.wrote; rows = pd.rows ∙ added x t p.rows };
+            stack = Nodes.pay-stack (length names) p.slots p.terms p.depth p.end at k d e h.sound h.stairs h.fits q x t o ss ts pd.slots h.wide pd.terms;
+            sound = Nodes.pay-laid (length names) p.slots p.terms p.depth p.end at k d e h.sound h.stairs h.fits q x t o ss ts pd.slots h.wide pd.terms;
             fits = omega (arith, h.fits);
           }
 
-    module _ (o : owing d ≡ false) where
+    module _ (o : NoneOwed d.aim) where
       -- rule 3: no candidates, and the rotation on the target is written
       module _ (z : val d.cands ≡ 0) where
-        leads-leaf : Leads (length names) (stack p) (leaf (aim_to d.target) set) below
+        leads-leaf : Leads (length names) (stack p) (leaf (aim_to (target_of d.aim)) set) below
         leads-leaf = Nodes.leaf-leads (length names) p.slots p.terms p.depth p.end at k d e h.sound h.stairs h.fits q o z
 
-        pub leaf-roomy : Roomy names (leaf (aim_to d.target) set) p.whole p.made
-        leaf-roomy = first-roomy names (length names) (stack p) _ (leaf (aim_to d.target) set) p.whole p.made leads-leaf h.room
+        pub leaf-roomy : Roomy names (leaf (aim_to (target_of d.aim)) set) p.whole p.made
+        leaf-roomy = first-roomy names (length names) (stack p) _ (leaf (aim_to (target_of d.aim)) set) p.whole p.made leads-leaf h.room
 
-        pub step-leaf : (whole : List ℤ) (r : ℕ) → Wrote (emit names (leaf (aim_to d.target) set)) p.whole p.made whole r
+        pub step-leaf : (whole : List ℤ) (r : ℕ) → Wrote (emit names (leaf (aim_to (target_of d.aim)) set)) p.whole p.made whole r
             → Stepped names p (place p.slots p.terms p.rows whole at d.start r)
         unfolding held
         step-leaf whole r w =
             record {
-              steps = leaf (aim_to d.target) set;
+              steps = leaf (aim_to (target_of d.aim)) set;
               next = _;
               leads = leads-leaf;
-              walks = record { wrote = w; rows = still (aim_to d.target) set p.rows };
+              walks = record { wrote = w; rows = still (aim_to (target_of d.aim)) set p.rows };
               stack = Nodes.stacked-same _;
               sound = Nodes.rest-laid (length names) p.slots p.terms p.depth p.end at k d e h.sound h.stairs;
               fits = omega (arith, top_start, h.fits);
             }
           where
-            still : (x : Aim) (us : List Term) (m : List ℕ) → m ≡ held (leaf x us) m
+            still : (x : Walk.Aim) (us : List Term) (m : List ℕ) → m ≡ held (leaf x us) m
             still free us m = refl
             still (on t) us m = refl
             still (owes c t) us m = refl
@@ -135,3 +137,7 @@ module _ (names : List ℕ) (p : Place) (h : Standing names p) (at : ℕ) (k : p
             sound = Nodes.branch-laid (length names) p.slots p.terms p.depth p.end at k d e h.sound h.stairs h.fits q o z h.wide ss ts br;
             fits = omega (arith, h.fits);
           }
+
+-- where the newest node stands in the rooms
+pub lies : (names : List ℕ) (p : Place) → Standing names p → 0 < p.depth → Nodes.Lies (length names) p.slots (length p.terms) p.depth p.end
+lies names p h w = Nodes.lies (length names) p.slots p.terms p.depth p.end h.sound h.stairs h.fits h.wide w

@@ -1,16 +1,17 @@
 -- Where the walk stands, and what one visit of it and the whole of it promise.
-use Rattle.std.specs.Prelude.{◌≡◌, List, [], ◌∷◌, ℕ, ◌+◌, ◌*◌, ◌≤◌, ℤ, length, set, take}
+use Rattle.std.specs.Prelude.{◌≡◌, List, [], ◌∷◌, ℕ, ◌+◌, ◌≤◌, ℤ, length, set, take}
 use Rattle.rules.specs.Fold.{Term}
 use Rattle.rules.specs.Walk.{Step, cn, Node, cross_terms, held}
 use Rattle.rules.specs.Close.{add_to}
 use Rattle.rules.specs.Synth as Synth
 use Rattle.rules.specs.Left.{Leads, Stairs, left}
 use Rattle.rules.specs.Order.{Stacked}
+use Rattle.parity.specs.declared.Parity.{Parity}
 use Rattle.terms.specs.Terms.{terms_of, Begins}
 use Rattle.rows.specs.Rows.{rows_of}
 use Rattle.writing.specs.Written.{Wrote, Fits}
 use Rattle.walk.specs.declared.Slot.{Slot}
-use Rattle.walk.specs.Stack.{node_width, slots_of, stack_of, Laid, paid}
+use Rattle.walk.specs.Stack.{stack_of, Laid, paid}
 use Rattle.walk.specs.Place.{Wires}
 use Rattle.plain_walk.specs.declared.State.{State}
 
@@ -27,13 +28,9 @@ pub record Place : Type 0 where
 abbrev pub stack : Place → List Node
 stack p = stack_of p.slots p.depth p.terms p.end
 
-abbrev pub place_of : List ℕ → List ℕ → List ℕ → List ℤ → State → Place
+abbrev pub place_of : List Slot → List ℕ → List Parity → List ℤ → State → Place
 place_of nodes room held whole s =
-    record { slots = slots_of nodes; terms = terms_of room; rows = rows_of held; whole = whole; depth = s.depth; end = s.end; made = s.made }
-
--- where a visit leaves off
-abbrev pub state_of : ℕ → ℕ → ℕ → State
-state_of depth end made = record { depth = depth; end = end; made = made }
+    record { slots = nodes; terms = terms_of room; rows = rows_of held; whole = whole; depth = s.depth; end = s.end; made = s.made }
 
 -- there is room for the gates of some steps behind k others
 abbrev pub Roomy : List ℕ → List Step → List ℤ → ℕ → Type 0
@@ -64,17 +61,17 @@ pub record Stepped (names : List ℕ) (p q : Place) : Type 0 where
   pub sound : Laid (length names) q.slots q.depth q.end
   pub fits : q.end ≤ length q.terms
 
--- the node d at the place `at` pays what it owes: the CNOT is written, its row added, every term that waits takes note, and it owes nothing
-pub record Paid (names : List ℕ) (d : Slot) (at : ℕ) (ts ts' : List Term) (ss ss' : List Slot) (m m' : List ℕ) (whole : List ℤ) (k : ℕ) (whole' : List ℤ) (k' : ℕ) : Type 0 where
-  pub wrote : Wrote (Synth.emit names (cn d.owed d.target ∷ [])) whole k whole' k'
-  pub rows : m' ≡ add_to d.owed d.target m
-  pub terms : Begins (cross_terms d.owed d.target (take d.start ts)) d.start d.start ts ts'
-  pub slots : ss' ≡ set ss at (paid d)
+-- the node d at the place `at` pays the control p that it owes to t: the CNOT is written, its row added, every term that waits takes note, and it owes nothing
+pub record Paid (names : List ℕ) (p t : ℕ) (d : Slot) (at : ℕ) (ts ts' : List Term) (ss ss' : List Slot) (m m' : List ℕ) (whole : List ℤ) (k : ℕ) (whole' : List ℤ) (k' : ℕ) : Type 0 where
+  pub wrote : Wrote (Synth.emit names (cn p t ∷ [])) whole k whole' k'
+  pub rows : m' ≡ add_to p t m
+  pub terms : Begins (cross_terms p t (take d.start ts)) d.start d.start ts ts'
+  pub slots : ss' ≡ set ss at (paid d t)
 
 -- what a walk over n columns that makes the steps ss is lent: the wires' names, room for a node more than there are columns, a row for each wire, and room for its gates
-pub record Lent (n : ℕ) (names nodes held : List ℕ) (ss : List Step) (whole : List ℤ) (k : ℕ) : Type 0 where
+pub record Lent (n : ℕ) (names : List ℕ) (nodes : List Slot) (held : List Parity) (ss : List Step) (whole : List ℤ) (k : ℕ) : Type 0 where
   pub wires : Wires names
   pub many : length names ≡ n
-  pub deep : node_width * (n + 1) ≤ length nodes
+  pub deep : n + 1 ≤ length nodes
   pub rows : length (rows_of held) ≡ n
   pub room : Roomy names ss whole k

@@ -2,7 +2,6 @@
 #![tactic(auto)]
 
 ghost use Rattle.std.specs.Prelude.{◌≡◌};
-ghost use Rattle.rules.specs.Limits.{clamp_qubits, clamp_terms};
 ghost use Rattle.rules.specs.Plan.{plan_of};
 ghost use Rattle.plan.specs.View.{view};
 
@@ -15,32 +14,12 @@ pub struct Plan {
     pub terms: usize,
 }
 
-// The qubit cap is clamped to 1..128.
-fn clamp_qubits(cap: usize) -> usize
-    ensures { result ≡ clamp_qubits cap }
-{
-    if cap < 1 {
-        1
-    } else if MAX_COLUMNS < cap {
-        MAX_COLUMNS
-    } else {
-        cap
-    }
-}
-
-// The term cap is raised to at least 1.
-fn clamp_terms(cap: usize) -> usize
-    ensures { result ≡ clamp_terms cap }
-{
-    if cap < 1 { 1 } else { cap }
-}
-
-// The plan of any two caps.
+// The plan of any two caps: the qubit cap is clamped to 1..128, the term cap is raised to at least 1.
 pub fn of_caps(qubit_cap: usize, term_cap: usize) -> Plan
     ensures { view result ≡ plan_of qubit_cap term_cap }
 {
     Plan {
-        qubits: clamp_qubits(qubit_cap),
-        terms: clamp_terms(term_cap),
+        qubits: qubit_cap.clamp(1, MAX_COLUMNS),
+        terms: term_cap.max(1),
     }
 }

@@ -11,17 +11,16 @@ ghost use Rattle.printing.specs.Clauses.{section_size, head_size, gates_size, li
 use rules::GATE_WIDTH;
 use spelling::Head;
 
+// Stays: the room is lent from C, and what stands in it behind the text stays as it was, so that a place is handed on.
+
 // Numbers, one to a line.
 fn write_lines(out: &mut [u8], at: usize, values: &[u32]) -> usize
     requires { at + line_size * length values.now ≤ length out.old }
     ensures { Prints (line_size * length values.now) (Texts.lines_text values.now) out.old at out.new result }
 {
-    let n = values.len();
     let mut next = at;
-    let mut i = 0;
-    while i < n {
-        next = text::write_line(&mut *out, next, values[i]);
-        i += 1;
+    for value in values {
+        next = text::write_line(&mut *out, next, *value);
     }
     next
 }
@@ -43,10 +42,8 @@ fn write_row(out: &mut [u8], at: usize, row: &[i32]) -> usize
 {
     let n = row.len();
     let mut next = at;
-    let mut k = 0;
-    while k < n {
-        next = text::write_ended(&mut *out, next, row[k], spelling::end_of(k, n));
-        k += 1;
+    for (k, value) in row.iter().enumerate() {
+        next = text::write_ended(&mut *out, next, *value, spelling::end_of(k, n));
     }
     next
 }
@@ -56,17 +53,11 @@ fn write_rows(out: &mut [u8], at: usize, numbers: &[i32], form: u32) -> usize
     requires { at + number_size * length numbers.now ≤ length out.old }
     ensures { Prints (number_size * length numbers.now) (Texts.rows_text (Texts.form_of form) (length numbers.now / width) numbers.now) out.old at out.new result }
 {
-    let n = numbers.len() / GATE_WIDTH;
     let shown = spelling::per_gate(form);
+    let (rows, _) = numbers.as_chunks::<GATE_WIDTH>();
     let mut next = at;
-    let mut i = 0;
-    while i < n {
-        next = write_row(
-            &mut *out,
-            next,
-            &numbers[GATE_WIDTH * i..GATE_WIDTH * i + shown],
-        );
-        i += 1;
+    for row in rows {
+        next = write_row(&mut *out, next, &row[..shown]);
     }
     next
 }

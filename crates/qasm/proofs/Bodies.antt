@@ -88,7 +88,7 @@ more-read w b k bs rest row r h e o =
     }
 
 -- a statement that is read leaves less of the text
-statement_less : (w b : ℕ) (bs : List ℕ) (row : List ℤ) (left : List ℕ) → statement w b bs ≡ found row left → length left < length bs
+pub statement_less : (w b : ℕ) (bs : List ℕ) (row : List ℤ) (left : List ℕ) → statement w b bs ≡ found row left → length left < length bs
 statement_less w b bs row left e =
     let s = statement-read w b bs row left e in
     omega (arith, ap length s.0, length-append (statement_text row) left, statement-some w b row s.1)
@@ -118,7 +118,3 @@ module _ (f w b k : ℕ) (bs : List ℕ) (h : 1 ≤ length bs) where
       → body (suc f) w b k bs ≡ record { numbers = on_line k row ++ (body f w b (suc k) left).numbers; behind = (body f w b (suc k) left).behind }
   unfolding body
   body-once row left e = before-end {A = Rows} bs _ _ h ∙ rw e
-
--- the place behind a statement that is read
-pub statement-further : (text : List ℕ) (w b at next : ℕ) (row : List ℤ) → next ≤ length text → statement w b (drop at text) ≡ found row (drop next text) → at < next
-statement-further text w b at next row h e = omega (arith, statement_less w b (drop at text) row (drop next text) e, length-drop at text, length-drop next text)

@@ -49,7 +49,7 @@ at_each w b (suc g) i ns f =
 
 -- ---- by places
 
-row_field : (ns : List ℤ) (i k : ℕ) → k < width → get_or (row_at ns i) k (pos 0) ≡ field ns i k
+pub row_field : (ns : List ℤ) (i k : ℕ) → k < width → get_or (row_at ns i) k (pos 0) ≡ field ns i k
 row_field ns i k h = get_or-take width (drop (width * i) ns) k (pos 0) h ∙ get_or-drop (width * i) ns k (pos 0)
 
 pub row-fault : (ns : List ℤ) (w b i : ℕ) → fault_at (row_at ns i) w b 0 ≡ fault_at ns w b i

@@ -3,22 +3,21 @@ use mathlib.Core.Path.{◌≡◌, refl, sym, ap, ◌∙◌}
 use mathlib.Core.Bool.{Bool, true, ◌&&◌, false≢true}
 use mathlib.Core.List.{List, [], ◌∷◌}
 use Prim.Native.Nat.{ℕ, zero, suc, ◌+◌, ◌≤◌, ◌<◌}
-use native.Mathlib.Nat.{add-zero, zero-add}
+use native.Mathlib.Nat.{zero-add}
 use native.Mathlib.Omega.{arith}
-use borrow.Author.Tests.{eqb-true}
-use lib.Dec.{eqb}
+use borrow.Author.Tests.{eqb-true, ltb-true, ltb-false}
+use lib.Dec.{eqb, ltb}
 use lib.IntN.{ℤ}
-use lib.ListN.{get_or, drop}
-use lib.Seq.{get_or-drop}
+use lib.ListN.{get_or}
 use Rattle.rules.specs.Limits.{last_code}
-use Rattle.rules.proofs.Bits.{same, and_left, and_right}
+use Rattle.rules.proofs.Bits.{split, same, and_left, and_right}
 use Rattle.text.specs.Reading.{Found, none, found, word}
 use Rattle.text.proofs.Lines.{absent, goes_on, word_read}
 use Rattle.qasm.specs.Table.{templates, template, written, spelled, field_of}
 use Rattle.qasm.specs.Statement.{bare, read_piece, read_by, read_as, or_else, read_first, any_gate}
 use Rattle.qasm.specs.Clauses.{first_part, second_part}
 use Rattle.qasm.proofs.Templates.{read-self}
-use Rattle.qasm.proofs.Codes.{every, every-at, spelled-most, spelled_at}
+use Rattle.qasm.proofs.Codes.{beyond, every, every-at, spelled-most, spelled_at}
 use Rattle.qasm.proofs.Statements.{first_read, as_read}
 
 -- the code that they tell
@@ -87,7 +86,7 @@ no-code-zero : (bs : List ℕ) → read_as 0 bs ≡ none
 unfolding read_as spelled template templates
 no-code-zero bs = refl
 
-pub any-guess : (bs : List ℕ) → guess bs ≤ last_code → any_gate bs ≡ read_as (guess bs) bs
+any-guess : (bs : List ℕ) → guess bs ≤ last_code → any_gate bs ≡ read_as (guess bs) bs
 unfolding any_gate
 any-guess bs h = go (read_first last_code 1 bs) refl
   where
@@ -100,7 +99,7 @@ any-guess bs h = go (read_first last_code 1 bs) refl
         let d = first_read last_code 1 bs row left e in
         e ∙ sym (ap (λ (k : ℕ). read_as k bs) (as-told d.0 bs row left d.1) ∙ d.1)
 
-pub any_none : (bs : List ℕ) → last_code < guess bs → any_gate bs ≡ none
+any_none : (bs : List ℕ) → last_code < guess bs → any_gate bs ≡ none
 unfolding any_gate
 any_none bs h = go (read_first last_code 1 bs) refl
   where
@@ -111,5 +110,13 @@ any_none bs h = go (read_first last_code 1 bs) refl
         let a = as_read d.0 bs row left d.1 in
         absurd (omega (arith, as-told d.0 bs row left d.1, spelled-most d.0 a.0))
 
-pub guess-at : (text : List ℕ) (at : ℕ) → guess (drop at text) ≡ first_part (get_or text at 0) + second_part (get_or text (at + 1) 0)
-guess-at text at = rw (get_or-drop at text 0 0, get_or-drop at text 1 0, add-zero at)
+beyond-none : (c : ℕ) (bs : List ℕ) → last_code < c → read_as c bs ≡ none
+unfolding read_as spelled
+beyond-none c bs h = rw (beyond c h)
+
+-- the code that they tell is the only one that has to be tried
+pub any-as : (bs : List ℕ) → any_gate bs ≡ read_as (guess bs) bs
+any-as bs =
+    split (ltb last_code (guess bs))
+    (λ e. let far = ltb-true last_code (guess bs) e in any_none bs far ∙ sym (beyond-none (guess bs) bs far))
+    (λ e. any-guess bs (ltb-false last_code (guess bs) e))

@@ -10,8 +10,6 @@ pub mod Trips
 pub mod Short
 -- what the functions come to
 pub mod Pieces
-mod Answers
-mod Spans
 mod Guesses
-mod Fronts
 mod Keeping
+mod Fronts

@@ -21,7 +21,7 @@ use Rattle.qasm.specs.Export.{sized, register_text, opening_text, statements_tex
 use Rattle.qasm.specs.Clauses.{opening_size}
 use Rattle.qasm.proofs.Templates.{field_lt, ranged-at, piece-self, piece-number}
 use Rattle.qasm.proofs.Codes.{short_piece, short_size, fine}
-use Rattle.qasm.proofs.Pieces.{printed-short}
+use Rattle.qasm.proofs.Pieces.{printed_short}
 use Rattle.qasm.proofs.Statements.{code_of, Gated, row-fit, row-signless}
 use Rattle.qasm.proofs.Gates.{Each}
 use Rattle.qasm.proofs.Trips.{Spellable, rows_right}
@@ -37,7 +37,7 @@ unfolding printed
 four v n e h = rw (← e) (decimal-long 3 n (omega arith))
 
 small-gate : (w b : ℕ) (row : List ℤ) → w ≤ max_wires → b ≤ max_bits → Gated w b row → Small row
-small-gate w b row hw hb g = record { index = at; turn = printed-short (get_or row 4 (pos 0)) (record { sfits = omega (arith, ranged-at row 4 g.each) }) }
+small-gate w b row hw hb g = record { index = at; turn = printed_short (get_or row 4 (pos 0)) (record { sfits = omega (arith, ranged-at row 4 g.each) }) }
   where
     at : (k : ℕ) → k < 5 → eqb k 0 ≡ false → eqb k 4 ≡ false → length (printed (get_or row k (pos 0))) ≤ 4
     at zero h e f = absurd (true≢false e)

@@ -1,17 +1,15 @@
 -- What the crate's functions ask and say.
-use Rattle.std.specs.Prelude.{◌≡◌, Bool, true, ◌||◌, cond, List, [], ◌∷◌, ℕ, ◌+◌, ◌-◌, ◌*◌, ◌/◌, ◌^◌, ◌≤◌, ◌<◌, eqb, ltb, ℤ, length, take, drop}
+use Rattle.std.specs.Prelude.{◌≡◌, Option, None, Some, Result, Ok, Err, true, false, ◌||◌, cond, List, [], ◌∷◌, ℕ, ◌+◌, ◌*◌, ◌/◌, ◌^◌, ◌≤◌, ◌<◌, eqb, ℤ, length, take}
 use Prim.Native.Char.{code}
-use mir.Val.{bool_byte}
 use Rattle.rules.specs.Limits.{width}
 use Rattle.rules.specs.Pass.{over}
-use Rattle.text.specs.Reading.{Found}
 use Rattle.spelling.specs.Lines.{Lines, bad, good}
 use Rattle.spelling.specs.Reading.{Rows}
-use Rattle.text.specs.Clauses.{Reads}
-use Rattle.qasm.specs.Table.{table, template, field_of}
+use Rattle.qasm.specs.Table.{field_of}
 use Rattle.qasm.specs.Import as Spec
-use Rattle.qasm.specs.declared.Imported.{Imported}
-use Rattle.qasm.specs.declared.Imported.TheVariants.{Wrong, Many, Large, Good}
+use Rattle.qasm.specs.declared.Opening.{Opening}
+use Rattle.qasm.specs.declared.Wrong.{Wrong}
+use Rattle.qasm.specs.declared.Wrong.TheVariants.{Line, Many, Large}
 
 -- ---- parts of the text
 
@@ -19,11 +17,10 @@ use Rattle.qasm.specs.declared.Imported.TheVariants.{Wrong, Many, Large, Good}
 abbrev pub longest : ℕ
 longest = 2 ^ 30
 
--- where the spelling of a code stands in the table
-pub record Stands (c from to : ℕ) : Type 0 where
-  pub part : take (to - from) (drop from table) ≡ template c
-  pub ordered : from ≤ to
-  pub within : to ≤ length table
+-- a byte of a template stands for itself, or for the number at a place
+abbrev pub StandsFor : ℕ → Option ℕ → Type 0
+StandsFor b None = eqb (field_of b) 0 ≡ true
+StandsFor b (Some k) = (eqb (field_of b) 0 ≡ false) × (k ≡ field_of b) × (k < width)
 
 -- what the first and the second byte of a statement tell of its code: their sum is the only one whose spelling can begin so
 abbrev pub first_part : ℕ → ℕ
@@ -40,19 +37,23 @@ first_part b =
 abbrev pub second_part : ℕ → ℕ
 second_part b = cond (eqb b (code "d") || eqb b (code "z")) 1 (cond (eqb b (code "e")) 7 (cond (eqb b (code "c")) 16 0))
 
--- a register that may be left out: its size is then 0, and the next place is the same
-pub record ReadsSize (text : List ℕ) (meant : Found ℕ) (at size next : ℕ) : Type 0 where
-  pub reads : Reads text meant (ltb 0 size) size next
-  pub stays : size ≡ 0 → next ≡ at
+-- the lines before the gates
+abbrev pub ReadsOpening : Result Opening Wrong → Lines Spec.Registers → Type 0
+ReadsOpening (Ok o) meant = meant ≡ good (record { wires = o.wires; bits = o.bits }) o.line o.rest.now
+ReadsOpening (Err (Line k)) meant = meant ≡ bad k
+ReadsOpening (Err Many) meant = ⊥
+ReadsOpening (Err Large) meant = ⊥
 
--- the first line that is wrong, or the one behind the registers
-abbrev pub line_after : Bool → Bool → ℕ → ℕ → ℕ
-line_after version include wires bits = cond version (cond include (3 + bool_byte (ltb 0 wires) + bool_byte (ltb 0 bits)) 2) 1
+-- the gates' lines
+abbrev pub BodyEnds : Result ℕ Wrong → Rows → Type 0
+BodyEnds (Ok n) meant = (k : ℕ) × (meant.behind ≡ good tt k []) × (length meant.numbers ≡ width * n)
+BodyEnds (Err (Line k)) meant = meant.behind ≡ bad k
+BodyEnds (Err Many) meant = ⊥
+BodyEnds (Err Large) meant = ⊥
 
--- the gates' lines, of which the numbers of at most so many gates stand first in the room
-pub record ReadsBody (meant : Rows) (most : ℕ) (room room' : List ℤ) (ok : Bool) (line count : ℕ) : Type 0 where
-  pub exact : cond ok (good tt line []) (bad line) ≡ meant.behind
-  pub counts : ok ≡ true → length meant.numbers ≡ width * count
+-- the numbers of at most so many gates stand first in the room
+pub record ReadsBody (meant : Rows) (most : ℕ) (room room' : List ℤ) (r : Result ℕ Wrong) : Type 0 where
+  pub lines : BodyEnds r meant
   pub numbers : room' ≡ over (take (width * most) meant.numbers) room
 
 -- ---- how long it can be
@@ -95,27 +96,19 @@ unfoldable pub met : ℕ → List ℕ → List ℤ
 met most bs = met_lines most (Spec.opening bs)
 
 -- the answer in the definition's terms; the gates' numbers are those that stand first in the room
-abbrev pub answered : List ℤ → Imported → Spec.Import
-answered room (Wrong k) = Spec.wrong k
-answered room Many = Spec.many
-answered room Large = Spec.large
-answered room (Good w b n) = Spec.list w b (take (width * n) room)
+abbrev pub answered : List ℤ → Result (ℕ × ℕ × ℕ) Wrong → Spec.Import
+answered room (Err (Line k)) = Spec.wrong k
+answered room (Err Many) = Spec.many
+answered room (Err Large) = Spec.large
+answered room (Ok x) = Spec.list x.0 x.1 (take (width * x.2) room)
 
 -- a count of gates is that of the numbers read, and one of at most so many
-abbrev pub Counts : ℕ → List ℤ → Imported → Type 0
-Counts most ns (Wrong k) = Unit {0}
-Counts most ns Many = Unit {0}
-Counts most ns Large = Unit {0}
-Counts most ns (Good w b n) = (length ns ≡ width * n) × (n ≤ most)
-
--- 12, then 3; the count is that of the numbers
-pub record Judges (wires bits count most : ℕ) (r : Imported) : Type 0 where
-  pub exact : (room ns : List ℤ) → length ns ≡ width * count → (count ≤ most → take (width * count) room ≡ ns)
-      → answered room r ≡ Spec.judged most (record { wires = wires; bits = bits }) ns
-  pub counts : (ns : List ℤ) → (count ≤ most → length ns ≡ width * count) → Counts most ns r
+abbrev pub Counts : ℕ → List ℤ → Result (ℕ × ℕ × ℕ) Wrong → Type 0
+Counts most ns (Err e) = Unit {0}
+Counts most ns (Ok x) = (length ns ≡ width * x.2) × (x.2 ≤ most)
 
 -- the answer, and the room: what was read stands first, the rest is as it was
-pub record ReadsQasm (text : List ℕ) (most : ℕ) (room room' : List ℤ) (r : Imported) : Type 0 where
+pub record ReadsQasm (text : List ℕ) (most : ℕ) (room room' : List ℤ) (r : Result (ℕ × ℕ × ℕ) Wrong) : Type 0 where
   pub answer : answered room' r ≡ Spec.read_qasm most text
   pub counts : Counts most (met most text) r
   pub numbers : room' ≡ over (met most text) room

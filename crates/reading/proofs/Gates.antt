@@ -1,27 +1,33 @@
 -- The gates' lines: a number more, a line more, and the room that they go into.
 use mathlib.Core.Path.{◌≡◌, refl, sym, ap, ◌∙◌}
-use mathlib.Core.Logic.{◌≢◌}
-use mathlib.Core.Bool.{Bool, true, false}
-use mathlib.Core.List.{List, [], ◌∷◌, ◌++◌, append-nil}
+use mathlib.Core.List.{List, [], ◌∷◌, ◌++◌, append-nil, append_assoc}
 use Prim.Native.Nat.{ℕ, zero, suc, ◌+◌, ◌-◌, ◌*◌, ◌≤◌, ◌<◌}
 use native.Mathlib.Nat.{zero-add}
 use native.Mathlib.Omega.{arith}
 use lib.IntN.{ℤ, pos}
-use lib.ListN.{length, drop, set, length-append}
+use lib.ListN.{length, take, drop, set, replicate, length-append, length-take, length-drop, take-append-drop, drop_of_length-le}
+use borrow.Rule.Slice.PartMut.{put_mid}
+use lib.Seq.{take_at, drop-drop}
+use Rattle.std.specs.Prelude.{Option, None, Some, Result, Err}
+use Rattle.std.specs.Option.{ok_or}
+use Rattle.std.specs.Borrow.{Bor}
 use Rattle.rules.specs.Limits.{width}
 use Rattle.rules.specs.Pass.{over}
 use Rattle.text.specs.Bytes.{pasted}
 use Rattle.text.specs.Reading.{Found, none, found, onward, ended}
 use Rattle.text.proofs.Lines.{absent}
-use Rattle.text.proofs.Pasting.{pasted-front, pasted-one, pasted-both, length-pasted}
+use Rattle.text.proofs.Pasting.{pasted-front, pasted-both}
 use Rattle.spelling.specs.Lines.{bad, good}
-use Rattle.spelling.specs.Texts.{Form, four, five, six, per_gate, unsaid}
+use Rattle.spelling.specs.Texts.{Form, per_gate, unsaid}
 use Rattle.spelling.specs.Reading.{Row, row, gate_row, Rows, rows}
 use Rattle.spelling.proofs.Forms.{per-gate-le, all_said}
 use Rattle.spelling.proofs.Spelling.{ends}
 use Rattle.reading.specs.Clauses.{ReadsRow}
 
 -- ---- a number of a line
+
+abbrev failed : {A E : Type 0} → E → Result A E
+failed e = Err e
 
 module _ (n k : ℕ) (bs : List ℕ) (h : k < n) where
   pub row_more : (v : ℤ) (left : List ℕ) → ended (ends (n - (k + 1))) bs ≡ found v left
@@ -44,13 +50,12 @@ row-end n k bs h =
     rw s
 
 -- one more number in the room
-pub row-once : (room : List ℤ) (to n k : ℕ) (bs : List ℕ) (v : ℤ) (left : List ℕ) → k < n → to + k < length room → ended (ends (n - (k + 1))) bs ≡ found v left
+pub row-once : (room : List ℤ) (n k : ℕ) (bs : List ℕ) (v : ℤ) (left : List ℕ) → k < n → k < length room → ended (ends (n - (k + 1))) bs ≡ found v left
     → ((row (n - (k + 1)) left).behind ≡ (row (n - k) bs).behind)
-    × (pasted (set room (to + k) v) (to + (k + 1)) (row (n - (k + 1)) left).numbers ≡ pasted room (to + k) (row (n - k) bs).numbers)
-row-once room to n k bs v left h fits e =
+    × (pasted (set room k v) (k + 1) (row (n - (k + 1)) left).numbers ≡ pasted room k (row (n - k) bs).numbers)
+row-once room n k bs v left h fits e =
     let m = row_more n k bs h v left e in
-    let j : to + (k + 1) ≡ to + k + 1 = omega arith in
-    (rw m, rw (m, j) (pasted-front room (to + k) v (row (n - (k + 1)) left).numbers fits))
+    (rw m, rw m (pasted-front room k v (row (n - (k + 1)) left).numbers fits))
 
 -- ---- how many numbers
 
@@ -96,43 +101,44 @@ module _ (f : Form) (bs : List ℕ) where
           let all : length (shown.numbers ++ unsaid f) ≡ width = length-append shown.numbers (unsaid f) ∙ omega (arith, s.full w rest e, all_said f) in
           rw (gate-found w rest e) (record { most = omega arith; full = λ u left h. all })
 
--- the room after it: all of a gate's numbers are shown, or all but the last
-all_shown : (f : Form) → per_gate f ≡ width → unsaid f ≡ []
-all_shown four h = absurd (omega arith)
-all_shown five h = absurd (omega arith)
-all_shown six h = refl
+-- a part's end and what lies behind the part
+end_behind : {A : Type 0} (m k : ℕ) (xs : List A) → m ≤ k → drop m (take k xs) ++ drop k xs ≡ drop m xs
+end_behind zero k xs h = take-append-drop k xs
+end_behind (suc m) zero xs h = absurd (omega arith)
+end_behind (suc m) (suc k) [] h = refl
+end_behind (suc m) (suc k) (x ∷ xs) h = end_behind m k xs (omega arith)
 
-five-shown : (f : Form) → per_gate f ≢ width → unsaid f ≡ pos 0 ∷ []
-five-shown four h = refl
-five-shown five h = refl
-five-shown six h = absurd (h refl)
+-- what stands first in a part of the room stands there in the room
+pub part-over : (new xs : List ℤ) (k : ℕ) → length new ≤ k → over new (take k xs) ++ drop k xs ≡ over new xs
+part-over new xs k h = append_assoc new (drop (length new) (take k xs)) (drop k xs) ∙ ap (λ (ys : List ℤ). new ++ ys) (end_behind (length new) k xs h)
 
-module _ (text : List ℕ) (f : Form) (bs : List ℕ) (room : List ℤ) (to : ℕ) (room' : List ℤ) (next : ℕ) where
-  pub gate-no : (ok : Bool) → ok ≡ false → ReadsRow text (row (per_gate f) bs) room to room' ok next → ReadsRow text (gate_row f bs) room to room' false next
-  gate-no ok e r =
-      let stop : (row (per_gate f) bs).behind ≡ none = sym r.exact ∙ rw e in
-      rw (gate-none f bs stop) (record { exact = sym stop; within = r.within; numbers = r.numbers })
+pub part-pasted : (room new : List ℤ) (a k : ℕ) → length new ≤ k → take a room ++ (over new (take k (drop a room)) ++ drop k (drop a room)) ≡ pasted room a new
+part-pasted room new a k h =
+    ap (λ (ys : List ℤ). take a room ++ ys) (part-over new (drop a room) k h ∙ ap (λ (ys : List ℤ). new ++ ys) (drop-drop (length new) a room))
+    ∙ sym (append_assoc (take a room) new (drop (a + length new) room))
 
-  module _ (ok : Bool) (is : ok ≡ true) (r : ReadsRow text (row (per_gate f) bs) room to room' ok next) where
-    reached-end : (row (per_gate f) bs).behind ≡ found tt (drop next text)
-    reached-end = sym r.exact ∙ rw is
+-- the room after a gate's line: what it doesn't show is filled up
+pub gate-no : (result : Option (Bor (List ℕ))) (f : Form) (bs : List ℕ) (gate part : List ℤ) → result ≡ None → (row (per_gate f) bs).behind ≡ none → part ≡ over (row (per_gate f) bs).numbers (take (per_gate f) gate)
+    → ReadsRow result (gate_row f bs) gate (part ++ drop (per_gate f) gate)
+gate-no result f bs gate part is stop e =
+    rw (is, gate-none f bs stop) (record { exact = stop; numbers = rw e (part-over (row (per_gate f) bs).numbers gate (per_gate f) (row_sized (per_gate f) bs).most) })
 
-    pub gate-six : per_gate f ≡ width → ReadsRow text (gate_row f bs) room to room' true next
-    gate-six h =
-        rw (gate-found f bs tt (drop next text) reached-end, all_shown f h, append-nil (row (per_gate f) bs).numbers)
-        (record { exact = refl; within = r.within; numbers = r.numbers })
-
-    pub gate-five : per_gate f ≢ width → to + width ≤ length room → ReadsRow text (gate_row f bs) room to (set room' (to + per_gate f) (pos 0)) true next
-    gate-five h fits =
-        let a : List ℤ = (row (per_gate f) bs).numbers in
-        let size : length a ≡ per_gate f = (row_sized (per_gate f) bs).full tt (drop next text) reached-end in
-        let long : length room' ≡ length room = ap length r.numbers ∙ length-pasted room to a (omega (arith, per-gate-le f)) in
-        let one : set room' (to + per_gate f) (pos 0) ≡ pasted room' (to + per_gate f) (pos 0 ∷ []) = pasted-one room' (to + per_gate f) (pos 0) (omega (arith, long, per-gate-le f, h)) in
-        let at : to + per_gate f ≡ to + length a = omega arith in
-        let both : pasted room' (to + per_gate f) (pos 0 ∷ []) ≡ pasted room to (a ++ pos 0 ∷ []) =
-        ap (λ (x : ℕ). pasted room' x (pos 0 ∷ [])) at ∙ ap (λ (x : List ℤ). pasted x (to + length a) (pos 0 ∷ [])) r.numbers
-        ∙ pasted-both room to a (pos 0 ∷ []) (omega (arith, per-gate-le f, h)) in
-        rw (gate-found f bs tt (drop next text) reached-end, five-shown f h) (record { exact = refl; within = r.within; numbers = one ∙ both })
+pub gate-all : (f : Form) (bs : List ℕ) (rest : Bor (List ℕ)) (gate part whole filled : List ℤ) → length gate ≡ width → (row (per_gate f) bs).behind ≡ found tt rest.now
+    → part ≡ over (row (per_gate f) bs).numbers (take (per_gate f) gate) → whole ≡ part ++ drop (per_gate f) gate
+    → filled ≡ replicate (length (take (length whole - per_gate f) (drop (per_gate f) whole))) (pos 0)
+    → ReadsRow (Some rest) (gate_row f bs) gate (take (per_gate f) whole ++ (filled ++ drop (length whole - per_gate f) (drop (per_gate f) whole)))
+gate-all f bs rest gate part whole filled size end e is fill =
+    let k : ℕ = per_gate f in
+    let ns : List ℤ = (row k bs).numbers in
+    let less = per-gate-le f in
+    let full : length ns ≡ k = (row_sized k bs).full tt rest.now end in
+    let written : whole ≡ ns ++ drop (length ns) gate = is ∙ rw e (part-over ns gate k (omega arith)) in
+    let long : length whole ≡ width = ap length written ∙ length-append ns (drop (length ns) gate) ∙ omega (arith, length-drop (length ns) gate) in
+    let front : take k whole ≡ ns = rw written (take_at ns (drop (length ns) gate) k full) in
+    let others : length (take (length whole - k) (drop k whole)) ≡ width - k = length-take (length whole - k) (drop k whole) ∙ omega (arith, length-drop k whole) in
+    let nothing : drop (length whole - k) (drop k whole) ≡ [] = drop_of_length-le (drop k whole) (omega (arith, length-drop k whole)) in
+    let past : drop (length (ns ++ unsaid f)) gate ≡ [] = drop_of_length-le gate (omega (arith, length-append ns (unsaid f), all_said f)) in
+    rw (gate-found f bs tt rest.now end) (record { exact = refl; numbers = rw (front, fill, others, nothing, past, append-nil) (sym (append-nil (ns ++ unsaid f))) })
 
 -- ---- the gates' lines
 
@@ -166,6 +172,17 @@ rows-size f (suc n) k bs = go (gate_row f bs).behind (λ left. rows-size f n (su
     go none m = omega (arith, (gate-sized f bs).most)
     go (found u left) m = let others = m left in simp length-append (omega (arith, (gate-sized f bs).most))
 
+-- a gate's part of the room, put back
+pub put-back : (room gate new : List ℤ) (i : ℕ) → length new ≤ width → gate ≡ over new (take (6 * (i + 1) - 6 * i) (drop (6 * i) room))
+    → put_mid (6 * i) (6 * (i + 1) - 6 * i) room gate ≡ pasted room (width * i) new
+put-back room gate new i h e =
+    let k : 6 * (i + 1) - 6 * i ≡ width = omega arith in
+    rw (e, k) (part-pasted room new (width * i) width h)
+
+-- the error that takes the place of nothing
+pub err_or : {A E : Type 0} (o : Option A) (d e : E) → o ≡ None → failed {A = A} e ≡ ok_or o d → e ≡ d
+err_or o d e is h = let same = rw is at h in cc
+
 -- one more line in the room
 pub rows-once : (f : Form) (room room' : List ℤ) (n i line : ℕ) (bs : List ℕ) (u : Unit) (left : List ℕ) → i < n → width * n ≤ length room
     → (gate_row f bs).behind ≡ found u left → room' ≡ pasted room (width * i) (gate_row f bs).numbers
@@ -182,12 +199,3 @@ rows-once f room room' n i line bs u left h fits e is =
 -- what stands from place 0 on stands first
 pub pasted-first : (room new : List ℤ) → pasted room 0 new ≡ over new room
 pasted-first room new = rw (zero-add (length new))
-
--- ---- what a caller learns of a line
-
-module _ (text : List ℕ) (meant : Row) (room : List ℤ) (at : ℕ) (room' : List ℤ) (ok : Bool) (next : ℕ) (r : ReadsRow text meant room at room' ok next) where
-  pub row_ok : ok ≡ true → meant.behind ≡ found tt (drop next text)
-  row_ok e = sym r.exact ∙ rw e
-
-  pub row-no : ok ≡ false → meant.behind ≡ none
-  row-no e = sym r.exact ∙ rw e

@@ -1,38 +1,32 @@
 -- A list, by where its reading ends; and the whole text.
-use mathlib.Core.Path.{◌≡◌, refl, sym, ap, ◌∙◌, subst}
-use mathlib.Core.Logic.{◌≢◌}
-use mathlib.Core.Bool.{Bool, true, false}
+use mathlib.Core.Path.{◌≡◌, refl, sym, ap, ◌∙◌}
+use mathlib.Core.Bool.{true, false}
 use mathlib.Core.List.{List, [], ◌∷◌, ◌++◌}
 use Prim.Native.Nat.{ℕ, zero, suc, ◌+◌, ◌*◌, ◌≤◌, ◌<◌}
 use native.Mathlib.Numerals.{add-one}
 use native.Mathlib.Omega.{arith}
-use borrow.Author.Tests.{lt-ltb, le-ltb}
+use borrow.Author.Tests.{lt-ltb, le-ltb, eqb-true, eqb-false}
+use lib.Dec.{eqb}
+use Rattle.std.proofs.lemmas.List.{nil_from_length}
 use lib.IntN.{ℤ}
-use lib.ListN.{length, get_or, take, drop, length-append, drop_of_length-le}
-use lib.Seq.{take_at, drop-cons}
+use lib.ListN.{length, take, drop, length-append}
+use lib.Seq.{take_at}
 use Rattle.rules.specs.Limits.{width}
 use Rattle.rules.specs.Pass.{over}
 use Rattle.text.specs.Reading.{Found, none, found, onward, count_line}
-use Rattle.spelling.specs.Lines.{Lines, bad, good}
-use Rattle.spelling.specs.Texts.{Form, form_of, Head, gates_word}
+use Rattle.spelling.specs.Lines.{bad, good}
+use Rattle.spelling.specs.Texts.{Form, form_of, gates_word}
 use Rattle.spelling.specs.Reading.{gate_row, Rows, rows, list, head_at, gathered, list_at, ending, read_text}
 use Rattle.spelling.specs.Heads.{head_of}
 use Rattle.spelling.specs.declared.Head as Code
 use Rattle.spelling.proofs.Spelling.{apart}
-use Rattle.reading.specs.Clauses.{ReadsLines, ReadsRows, ReadsList, ReadsText, met}
-use Rattle.reading.specs.declared.Front.{Front}
-use Rattle.reading.specs.declared.Front.TheVariants.{Wrong, Large, Whole}
-use Rattle.reading.specs.declared.Read.TheVariants.{Malformed, Many, Good}
+use Rattle.std.specs.Prelude.{Ok, Err}
+use Rattle.std.specs.Borrow.{Bor}
+use Rattle.reading.specs.Clauses.{ReadsLines, RowsEnd, ReadsList, ReadsText, met}
+use Rattle.reading.specs.declared.Listed.{Listed}
+use Rattle.reading.specs.declared.Wrong.{Wrong}
+use Rattle.reading.specs.declared.Wrong.TheVariants.{Line, Many}
 use Rattle.reading.proofs.Gates.{gate-sized}
-
--- ---- what a caller learns of some lines
-
-module _ {A : Type 0} (text : List ℕ) (meant : Lines A) (ok : Bool) (v : A) (line next : ℕ) (r : ReadsLines text meant ok v line next) where
-  pub lines_ok : ok ≡ true → meant ≡ good v line (drop next text)
-  lines_ok e = sym r.exact ∙ rw e
-
-  pub lines-no : ok ≡ false → meant ≡ bad line
-  lines-no e = sym r.exact ∙ rw e
 
 -- lines that are all right have all their numbers
 rows-full : (f : Form) (n k : ℕ) (bs : List ℕ) (u : Unit) (i : ℕ) (left : List ℕ) → (rows f n k bs).behind ≡ good u i left → length (rows f n k bs).numbers ≡ width * n
@@ -49,74 +43,72 @@ rows-full f (suc n) k bs u i left h = go (gate_row f bs).behind (gate-sized f bs
 
 -- ---- a list: the five ways
 
-module _ (text : List ℕ) (at line most : ℕ) (room : List ℤ) where
-  pub bad-head : (k : ℕ) → head_at line (drop at text) ≡ bad k → ReadsList text at line most room room (Wrong k)
+module _ (text : List ℕ) (line most : ℕ) (room : List ℤ) where
+  pub bad-head : (e : Wrong) → ReadsLines head_of (Err e) (head_at line text) → ReadsList text line most room room (Err e)
   unfolding list_at met
-  bad-head k e = record { answer = rw e; ends = tt; numbers = rw e }
+  bad-head (Line k) h = record { answer = rw h; ends = tt; numbers = rw h }
+  bad-head (Many k) h = absurd h
 
-  pub bad-count : (h : Head) (k : ℕ) (left : List ℕ) → head_at line (drop at text) ≡ good h k left → count_line gates_word left ≡ none → ReadsList text at line most room room (Wrong k)
-  unfolding list_at met
-  bad-count h k left e f = record { answer = rw (e, f); ends = tt; numbers = rw (e, f) }
-
-  module _ (h : Code.Head) (k : ℕ) (left : List ℕ) (n : ℕ) (rest : List ℕ) (e : head_at line (drop at text) ≡ good (head_of h) k left) (f : count_line gates_word left ≡ found n rest) where
-    pub too_many : most < n → ReadsList text at line most room room (Large k)
+  module _ (h : Code.Head) (k : ℕ) (left : List ℕ) (e : head_at line text ≡ good (head_of h) k left) where
+    pub bad-count : count_line gates_word left ≡ none → ReadsList text line most room room (Err (Line k))
     unfolding list_at met
-    too_many g = record { answer = rw (e, f, lt-ltb most n g); ends = tt; numbers = rw (e, f, lt-ltb most n g) }
+    bad-count f = record { answer = rw (e, f); ends = tt; numbers = rw (e, f) }
 
-    module _ (g : n ≤ most) (room' : List ℤ) (ok : Bool) (last next : ℕ) (r : ReadsRows text (rows (form_of h.form) n (k + 1) rest) room room' ok last next) where
-      met-is : met most line (drop at text) ≡ (rows (form_of h.form) n (suc k) rest).numbers
-      unfolding met
-      met-is = rw (e, f, le-ltb most n g)
+    module _ (n : ℕ) (rest : List ℕ) (f : count_line gates_word left ≡ found n rest) where
+      pub too_many : most < n → ReadsList text line most room room (Err (Many k))
+      unfolding list_at met
+      too_many g = record { answer = rw (e, f, lt-ltb most n g); ends = tt; numbers = rw (e, f, lt-ltb most n g) }
 
-      stands : room' ≡ over (met most line (drop at text)) room
-      stands = r.numbers ∙ rw (met-is, add-one k)
+      module _ (g : n ≤ most) (room' : List ℤ) where
+        abbrev gates : Rows
+        gates = rows (form_of h.form) n (k + 1) rest
 
-      comes-to : list_at most line (drop at text) ≡ gathered (head_of h) (rows (form_of h.form) n (suc k) rest).numbers (rows (form_of h.form) n (suc k) rest).behind
-      unfolding list_at
-      comes-to = rw (e, f, le-ltb most n g)
+        met-is : met most line text ≡ gates.numbers
+        unfolding met
+        met-is = rw (e, f, le-ltb most n g, add-one k)
 
-      pub all_read : ok ≡ true → ReadsList text at line most room room' (Whole h n last next)
-      all_read t =
-          let done : (rows (form_of h.form) n (suc k) rest).behind ≡ good tt last (drop next text) = rw (add-one k) at (lines_ok text (rows (form_of h.form) n (k + 1) rest).behind ok tt last next r.lines t) in
-          let numbers = (rows (form_of h.form) n (suc k) rest).numbers in
-          let full : length numbers ≡ width * n = rows-full (form_of h.form) n (suc k) rest tt last (drop next text) done in
-          let first : take (width * n) room' ≡ numbers = rw (r.numbers, add-one k) (take_at numbers (drop (length numbers) room) (width * n) full) in
-          record {
-            answer = ap (λ (ns : List ℤ). list (head_of h) ns last (drop next text)) first ∙ sym (comes-to ∙ rw done);
-            ends = (ap length met-is ∙ full, r.lines.within);
-            numbers = stands;
-          }
+        comes-to : list_at most line text ≡ gathered (head_of h) gates.numbers gates.behind
+        unfolding list_at
+        comes-to = rw (e, f, le-ltb most n g, add-one k)
 
-      pub not-all : ok ≡ false → ReadsList text at line most room room' (Wrong last)
-      not-all t =
-          let stop : (rows (form_of h.form) n (suc k) rest).behind ≡ bad last = rw (add-one k) at (lines-no text (rows (form_of h.form) n (k + 1) rest).behind ok tt last next r.lines t) in
-          record { answer = sym (comes-to ∙ rw stop); ends = tt; numbers = stands }
+        module _ (stand : room' ≡ over gates.numbers room) where
+          stands : room' ≡ over (met most line text) room
+          stands = stand ∙ rw met-is refl
+
+          pub not_all : (x : Wrong) → RowsEnd (Err x) gates.behind → ReadsList text line most room room' (Err x)
+          not_all (Line i) t = record { answer = sym (comes-to ∙ rw t refl); ends = tt; numbers = stands }
+          not_all (Many i) t = absurd t
+
+          pub all_read : (i : ℕ) (end : Bor (List ℕ)) → gates.behind ≡ good tt i end.now
+              → ReadsList text line most room room' (Ok (record { head = h; gates = n; line = i; rest = end }))
+          all_read i end t =
+              let full : length gates.numbers ≡ width * n = rows-full (form_of h.form) n (k + 1) rest tt i end.now t in
+              let first : take (width * n) room' ≡ gates.numbers = rw stand (take_at gates.numbers (drop (length gates.numbers) room) (width * n) full) in
+              record {
+                answer = ap (λ (ns : List ℤ). list (head_of h) ns i end.now) first ∙ sym (comes-to ∙ rw t refl);
+                ends = ap length met-is ∙ full;
+                numbers = stands;
+              }
 
 -- ---- the whole text, by what its list comes to
 
-pub front-is : (text : List ℕ) (at line most : ℕ) (room room' : List ℤ) (r x : Front) → r ≡ x → ReadsList text at line most room room' r → ReadsList text at line most room room' x
-front-is text at line most room room' r x e h = subst (λ (y : Front). ReadsList text at line most room room' y) e h
-
 module _ (text : List ℕ) (most : ℕ) (room room' : List ℤ) where
-  pub text-wrong : (k : ℕ) → ReadsList text 0 1 most room room' (Wrong k) → ReadsText text most room room' (Malformed k)
+  pub text-wrong : (e : Wrong) → ReadsList text 1 most room room' (Err e) → ReadsText text most room room' (Err e)
   unfolding read_text
-  text-wrong k r = record { answer = ap ending r.answer; counts = tt; numbers = r.numbers }
+  text-wrong (Line k) r = record { answer = ap ending r.answer; counts = tt; numbers = r.numbers }
+  text-wrong (Many k) r = record { answer = ap ending r.answer; counts = tt; numbers = r.numbers }
 
-  pub text-large : (k : ℕ) → ReadsList text 0 1 most room room' (Large k) → ReadsText text most room room' (Many k)
-  unfolding read_text
-  text-large k r = record { answer = ap ending r.answer; counts = tt; numbers = r.numbers }
-
-  module _ (h : Code.Head) (n k next : ℕ) (r : ReadsList text 0 1 most room room' (Whole h n k next)) where
-    left_is : (left : List ℕ) → drop next text ≡ left → ending (list (head_of h) (take (width * n) room') k left) ≡ read_text most text
+  module _ (l : Listed) (r : ReadsList text 1 most room room' (Ok l)) where
+    left_is : (left : List ℕ) → l.rest.now ≡ left → ending (list (head_of l.head) (take (width * l.gates) room') l.line left) ≡ read_text most text
     unfolding read_text
-    left_is left e = ap (λ (x : List ℕ). ending (list (head_of h) (take (width * n) room') k x)) (sym e) ∙ ap ending r.answer
+    left_is left e = ap (λ (x : List ℕ). ending (list (head_of l.head) (take (width * l.gates) room') l.line x)) (sym e) ∙ ap ending r.answer
 
-    pub text-whole : next ≡ length text → ReadsText text most room room' (Good h n)
-    text-whole e =
-        let far : length text ≤ next = omega arith in
-        record { answer = left_is [] (drop_of_length-le text far); counts = r.ends.0; numbers = r.numbers }
+    pub text-whole : eqb (length l.rest.now) 0 ≡ true → ReadsText text most room room' (Ok (l.head, l.gates))
+    text-whole e = record { answer = left_is [] (nil_from_length l.rest.now (eqb-true (length l.rest.now) 0 e)); counts = r.ends; numbers = r.numbers }
 
-    pub text-surplus : next ≢ length text → ReadsText text most room room' (Malformed k)
-    text-surplus e =
-        let more : next < length text = omega (arith, r.ends.1, e) in
-        record { answer = left_is (get_or text next 0 ∷ drop (suc next) text) (drop-cons text next 0 more); counts = tt; numbers = r.numbers }
+    pub text-surplus : eqb (length l.rest.now) 0 ≡ false → ReadsText text most room room' (Err (Line l.line))
+    text-surplus e = go l.rest.now refl
+      where
+        go : (left : List ℕ) → l.rest.now ≡ left → ReadsText text most room room' (Err (Line l.line))
+        go [] is = absurd (eqb-false (length l.rest.now) 0 e (ap length is))
+        go (b ∷ bs) is = record { answer = left_is (b ∷ bs) is; counts = tt; numbers = r.numbers }

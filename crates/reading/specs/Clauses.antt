@@ -1,46 +1,48 @@
 -- What the crate's functions ask and say.
-use Rattle.std.specs.Prelude.{◌≡◌, Bool, cond, List, [], ℕ, suc, ◌+◌, ◌*◌, ◌^◌, ◌≤◌, ◌<◌, ltb, ℤ, length, take, drop}
+use Rattle.std.specs.Prelude.{◌≡◌, Option, Result, Ok, Err, cond, List, [], ℕ, suc, ◌*◌, ◌^◌, ◌≤◌, ◌<◌, ltb, ℤ, length, take}
+use Rattle.std.specs.Borrow.{Bor}
 use Rattle.rules.specs.Limits.{width}
 use Rattle.rules.specs.Pass.{over}
-use Rattle.text.specs.Bytes.{pasted}
 use Rattle.text.specs.Reading.{Found, none, found, count_line}
-use Rattle.text.specs.Clauses.{reached}
+use Rattle.text.specs.Clauses.{Leaves}
 use Rattle.spelling.specs.Lines.{Lines, bad, good}
 use Rattle.spelling.specs.Texts as Texts
 use Rattle.spelling.specs.Texts.{Form, gates_word}
 use Rattle.spelling.specs.Reading as Spec
 use Rattle.spelling.specs.Heads.{head_of}
-use Rattle.reading.specs.declared.Front.{Front}
-use Rattle.reading.specs.declared.Front.TheVariants.{Wrong, Large, Whole}
-use Rattle.reading.specs.declared.Read.{Read}
-use Rattle.reading.specs.declared.Read.TheVariants.{Malformed, Many, Good}
+use Rattle.spelling.specs.declared.Head.{Head}
+use Rattle.reading.specs.declared.Listed.{Listed}
+use Rattle.reading.specs.declared.Wrong.{Wrong}
+use Rattle.reading.specs.declared.Wrong.TheVariants.{Line, Many}
 
--- ---- lines read up to a place of the text: the next line's number, or the wrong one's
+-- ---- lines
 
-pub record ReadsLines {A : Type 0} (text : List ℕ) (meant : Lines A) (ok : Bool) (value : A) (line next : ℕ) : Type 0 where
-  pub exact : cond ok (good value line (drop next text)) (bad line) ≡ meant
-  pub within : next ≤ length text
+-- what some lines come to, with a view of the value: the next line's number and the text behind them, or the number of the line that is wrong
+abbrev pub ReadsLines : {A B : Type 0} → (A → B) → Result (A × ℕ × Bor (List ℕ)) Wrong → Lines B → Type 0
+ReadsLines view (Ok x) meant = meant ≡ good (view x.0) x.1 x.2.now
+ReadsLines view (Err (Line k)) meant = meant ≡ bad k
+ReadsLines view (Err (Many k)) meant = ⊥
 
--- how many lines of the head are right before the first that isn't; all of a head of n numbers, where they are
-abbrev pub right : Bool → Bool → Bool → Bool → Bool → Bool → ℕ → ℕ
-right first wires bits qubits terms form n = cond first (cond wires (cond bits (cond qubits (cond terms (cond form (n + 1) 5) 4) 3) 2) 1) 0
-
--- a line of numbers: they stand in the room from a place on, up to the first that is not right
-pub record ReadsRow (text : List ℕ) (meant : Spec.Row) (room : List ℤ) (at : ℕ) (room' : List ℤ) (ok : Bool) (next : ℕ) : Type 0 where
-  pub exact : reached text ok tt next ≡ meant.behind
-  pub within : next ≤ length text
-  pub numbers : room' ≡ pasted room at meant.numbers
-
--- the gates' lines: their numbers stand first in the room
-pub record ReadsRows (text : List ℕ) (meant : Spec.Rows) (room room' : List ℤ) (ok : Bool) (line next : ℕ) : Type 0 where
-  pub lines : ReadsLines text meant.behind ok tt line next
+-- a line of numbers: they stand first in the room, up to the first that is not right
+pub record ReadsRow (result : Option (Bor (List ℕ))) (meant : Spec.Row) (room room' : List ℤ) : Type 0 where
+  pub exact : Leaves tt result meant.behind
   pub numbers : room' ≡ over meant.numbers room
 
--- ---- a list from a place on
+-- likewise of lines with no value but their numbers
+abbrev pub RowsEnd : Result (ℕ × Bor (List ℕ)) Wrong → Lines Unit → Type 0
+RowsEnd (Ok x) meant = meant ≡ good tt x.0 x.1.now
+RowsEnd (Err (Line k)) meant = meant ≡ bad k
+RowsEnd (Err (Many k)) meant = ⊥
 
--- the place is one of the text, line numbers are far from their end, and the room holds the numbers of the most gates
-pub record Legible (text : List ℕ) (at line most : ℕ) (room : List ℤ) : Type 0 where
-  pub within : at ≤ length text
+-- the gates' lines: their numbers stand first in the room
+pub record ReadsRows (result : Result (ℕ × Bor (List ℕ)) Wrong) (meant : Spec.Rows) (room room' : List ℤ) : Type 0 where
+  pub lines : RowsEnd result meant.behind
+  pub numbers : room' ≡ over meant.numbers room
+
+-- ---- a list from a line on
+
+-- line numbers are far from their end, and the room holds the numbers of the most gates
+pub record Legible (line most : ℕ) (room : List ℤ) : Type 0 where
   pub early : line < 2 ^ 32
   pub holds : width * most ≤ length room
 
@@ -57,36 +59,34 @@ unfoldable pub met : ℕ → ℕ → List ℕ → List ℤ
 met most k bs = met_lines most (Spec.head_at k bs)
 
 -- the answer in the definition's terms; the numbers are those that stand first in the room
-abbrev pub front_of : List ℕ → List ℤ → Front → Spec.Front
-front_of text room (Wrong k) = Spec.wrong k
-front_of text room (Large k) = Spec.large k
-front_of text room (Whole h n k next) = Spec.list (head_of h) (take (width * n) room) k (drop next text)
+abbrev pub front_of : List ℤ → Result Listed Wrong → Spec.Front
+front_of room (Err (Line k)) = Spec.wrong k
+front_of room (Err (Many k)) = Spec.large k
+front_of room (Ok l) = Spec.list (head_of l.head) (take (width * l.gates) room) l.line l.rest.now
 
--- a count of gates is that of the numbers, and the next place is one of the text
-abbrev pub Ends : List ℕ → List ℤ → Front → Type 0
-Ends text ns (Wrong k) = Unit {0}
-Ends text ns (Large k) = Unit {0}
-Ends text ns (Whole h n k next) = (length ns ≡ width * n) × (next ≤ length text)
+-- a count of gates is that of the numbers
+abbrev pub Ends : List ℤ → Result Listed Wrong → Type 0
+Ends ns (Err e) = Unit {0}
+Ends ns (Ok l) = length ns ≡ width * l.gates
 
 -- the answer, and the room: what was read stands first, the rest is as it was
-pub record ReadsList (text : List ℕ) (at line most : ℕ) (room room' : List ℤ) (r : Front) : Type 0 where
-  pub answer : front_of text room' r ≡ Spec.list_at most line (drop at text)
-  pub ends : Ends text (met most line (drop at text)) r
-  pub numbers : room' ≡ over (met most line (drop at text)) room
+pub record ReadsList (text : List ℕ) (line most : ℕ) (room room' : List ℤ) (r : Result Listed Wrong) : Type 0 where
+  pub answer : front_of room' r ≡ Spec.list_at most line text
+  pub ends : Ends (met most line text) r
+  pub numbers : room' ≡ over (met most line text) room
 
 -- ---- the whole text
 
-abbrev pub answered : List ℤ → Read → Spec.Read
-answered room (Malformed k) = Spec.malformed k
-answered room (Many k) = Spec.many k
-answered room (Good h n) = Spec.read (head_of h) (take (width * n) room)
+abbrev pub answered : List ℤ → Result (Head × ℕ) Wrong → Spec.Read
+answered room (Err (Line k)) = Spec.malformed k
+answered room (Err (Many k)) = Spec.many k
+answered room (Ok x) = Spec.read (head_of x.0) (take (width * x.1) room)
 
-abbrev pub Counts : List ℤ → Read → Type 0
-Counts ns (Malformed k) = Unit {0}
-Counts ns (Many k) = Unit {0}
-Counts ns (Good h n) = length ns ≡ width * n
+abbrev pub Counts : List ℤ → Result (Head × ℕ) Wrong → Type 0
+Counts ns (Err e) = Unit {0}
+Counts ns (Ok x) = length ns ≡ width * x.1
 
-pub record ReadsText (text : List ℕ) (most : ℕ) (room room' : List ℤ) (r : Read) : Type 0 where
+pub record ReadsText (text : List ℕ) (most : ℕ) (room room' : List ℤ) (r : Result (Head × ℕ) Wrong) : Type 0 where
   pub answer : answered room' r ≡ Spec.read_text most text
   pub counts : Counts (met most 1 text) r
   pub numbers : room' ≡ over (met most 1 text) room

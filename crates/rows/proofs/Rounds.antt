@@ -1,21 +1,24 @@
 -- One round of each loop, over plain lists.
 use mathlib.Core.Path.{◌≡◌, refl, sym, ap, ap₂, ◌∙◌}
 use mathlib.Core.Logic.{◌⊎◌, inl, inr}
-use mathlib.Core.Bool.{Bool, true, false, cond}
+use mathlib.Core.Bool.{Bool, true, false, ◌&&◌, cond}
 use mathlib.Core.List.{List, [], ◌∷◌, ◌++◌}
 use mathlib.Core.Option.{none, some}
 use Prim.Native.Nat.{ℕ, zero, suc, ◌+◌, ◌-◌, ◌≤◌, ◌<◌}
 use native.Mathlib.Numerals.{add-one}
 use native.Mathlib.Omega.{arith}
 use lib.Dec.{eqb}
-use lib.ListN.{length, get_or, set, take, drop, drop_of_length-le}
-use lib.Seq.{set-get_or, get_or-set_other, take-suc, take-suc-set, take_all, drop-cons}
+use lib.ListN.{length, get_or, set, take}
+use lib.Pointwise.{pointwise}
+use lib.Seq.{set-get_or, get_or-set_other, take-suc, take-suc-set, take_all}
 use Rattle.rules.specs.Bit.{bit, xor}
 use Rattle.rules.specs.Close.{add_to, swap, first_with, units, Pairs, clear_both, invert_from, inverse, eq_rows}
 use borrow.Author.Tests.{ne_eqb}
 use Rattle.rules.proofs.Bits.{same, eqb-self}
 use Rattle.parity.proofs.Laws.{xor_zero_r}
-use Rattle.rows.specs.Rows.{other_has, pair}
+use Rattle.parity.specs.declared.Parity.{Parity}
+use Rattle.parity.specs.View.{val}
+use Rattle.rows.specs.Rows.{rows_of, other_has, pair}
 
 -- ---- a list filled from the front is the first r elements of the list wanted
 
@@ -128,18 +131,11 @@ invert-start a b e =
     let s : length a - 0 ≡ length a = omega arith in
     rw (s, e)
 
--- ---- rows compared from the front
+-- ---- rows compared
 
-module _ (r : ℕ) (a b : List ℕ) where
-  pub equal-end : length a ≤ r → length b ≤ r → eq_rows (drop r a) (drop r b) ≡ true
-  unfolding eq_rows
-  equal-end l k = rw (drop_of_length-le a l, drop_of_length-le b k)
-
-  module _ (l : r < length a) (k : r < length b) where
-    pub equal_next : eqb (get_or a r 0) (get_or b r 0) ≡ true → eq_rows (drop r a) (drop r b) ≡ eq_rows (drop (r + 1) a) (drop (r + 1) b)
-    unfolding eq_rows
-    equal_next e = rw (drop-cons a r 0 l, drop-cons b r 0 k, e, add-one r)
-
-    pub equal-stop : eqb (get_or a r 0) (get_or b r 0) ≡ false → eq_rows (drop r a) (drop r b) ≡ false
-    unfolding eq_rows
-    equal-stop e = rw (drop-cons a r 0 l, drop-cons b r 0 k, e)
+pub rows_same : (xs ys : List Parity) → pointwise (λ a b. eqb (val a) (val b)) xs ys ≡ eq_rows (rows_of xs) (rows_of ys)
+unfolding eq_rows
+rows_same [] [] = refl
+rows_same [] (y ∷ ys) = refl
+rows_same (x ∷ xs) [] = refl
+rows_same (x ∷ xs) (y ∷ ys) = ap (λ (r : Bool). eqb (val x) (val y) && r) (rows_same xs ys)

@@ -1,7 +1,8 @@
 -- From what reading says to the answer.
-use mathlib.Core.Path.{◌≡◌, refl, sym, ap, subst, ◌∙◌}
+use mathlib.Core.Path.{◌≡◌, refl, sym, ap}
 use mathlib.Core.Bool.{false, true≢false}
 use mathlib.Core.List.{List}
+use Rattle.std.specs.Prelude.{Ok, Err}
 use Prim.Native.Nat.{ℕ, ◌*◌, ◌≤◌, ◌<◌}
 use native.Mathlib.Omega.{arith}
 use borrow.Author.Tests.{le-ltb, lt-ltb}
@@ -18,12 +19,14 @@ use Rattle.spelling.specs.Reading.{Read, malformed, many, read, read_text}
 use Rattle.spelling.specs.Heads.{head_of}
 use Rattle.spelling.specs.declared.Head as HeadIs
 use Rattle.spelling.proofs.Spelling.{text-read}
-use Rattle.reading.specs.Clauses as Reads
-use Rattle.reading.specs.Clauses.{ReadsText, met}
-use Rattle.reading.specs.declared.Read as ReadIs
-use Rattle.reading.specs.declared.Read.TheVariants.{Good}
+use Rattle.reading.specs.Clauses.{ReadsText, answered, met}
+use Rattle.reading.specs.declared.Wrong.{Wrong}
+use Rattle.reading.specs.declared.Wrong.TheVariants.{Line, Many}
 use Rattle.saying.specs.Answer.{Judge, Next, refusal, judged, judged_by, read_as, answer_by}
-use Rattle.saying.specs.Clauses.{Held}
+use Rattle.saying.specs.declared.Reason.TheVariants.{Long}
+use Rattle.saying.specs.Reasons.{reason_of}
+use Rattle.saying.specs.Clauses.{Declined, Held}
+use Rattle.saying.proofs.Places.{line_of, text-line}
 
 pub answer-long : (next : Next) (text : List ℕ) → list_bytes < length text → answer_by next text ≡ refusal 10 0 0
 unfolding answer_by
@@ -33,19 +36,26 @@ pub answer-read : (next : Next) (text : List ℕ) (r : Read) → length text ≤
 unfolding answer_by
 answer-read next text r h e = rw (le-ltb list_bytes (length text) h) (ap (read_as next) (sym e))
 
-pub held : (text : List ℕ) (room room' : List ℤ) (r : ReadIs.Read) (h : HeadIs.Head) (n : ℕ) → length text ≤ list_bytes → ReadsText text list_gates room room' r → r ≡ Good h n
-    → Held text room' h n
-held text room room' r h n short t e =
-    let is : read (head_of h) (take (width * n) room') ≡ read_text list_gates text = ap (Reads.answered room') (sym e) ∙ t.answer in
-    let size : length (met list_gates 1 text) ≡ width * n = subst (Reads.Counts (met list_gates 1 text)) e t.counts in
-    let l = (text-read list_gates (head_of h) (take (width * n) room') text (sym is)).1 in
+-- a text that is too long, or that was not read
+pub long : (text : List ℕ) → list_bytes < length text → Declined answer_by text Long
+long text h = record { is = λ next. answer-long next text h; small = omega arith }
+
+pub declined : (text : List ℕ) (room' : List ℤ) (w : Wrong) → length text ≤ list_bytes → answered room' (Err w) ≡ read_text list_gates text → Declined answer_by text (reason_of w)
+declined text room' (Line k) short is = record { is = λ next. answer-read next text (malformed k) short is; small = omega (arith, ap line_of is, text-line list_gates text) }
+declined text room' (Many k) short is = record { is = λ next. answer-read next text (many k) short is; small = omega (arith, ap line_of is, text-line list_gates text) }
+
+pub held : (text : List ℕ) (room room' : List ℤ) (p : HeadIs.Head × ℕ) → length text ≤ list_bytes → ReadsText text list_gates room room' (Ok p) → Held text room' p.0 p.1
+held text room room' p short t =
+    let n = p.1 in
+    let size : length (met list_gates 1 text) ≡ width * n = t.counts in
+    let l = (text-read list_gates (head_of p.0) (take (width * n) room') text (sym t.answer)).1 in
     let fits : width * n ≤ length room' = omega (arith, ap length t.numbers, length-append (met list_gates 1 text) (drop (length (met list_gates 1 text)) room)) in
     record {
       most = omega (arith, l.few, length-take-le (width * n) room' fits);
       fits = fits;
       few = record { whole = l.whole; few = l.few };
-      reads = sym is;
-      answer = λ next. answer-read next text _ short is;
+      reads = sym t.answer;
+      answer = λ next. answer-read next text _ short t.answer;
     }
 
 -- ---- what holds of each answer to an accepted list holds of each answer that is no refusal

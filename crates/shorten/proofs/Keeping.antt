@@ -24,10 +24,10 @@ use Rattle.qasm.specs.Import.{list, read_qasm}
 use Rattle.qasm.specs.Export.{qasm_text}
 use Rattle.qasm.proofs.Trips.{import-export, export-import}
 use Rattle.import.specs.Answer.{head_for}
-use Rattle.import.proofs.Taking.{answer-kept}
+use Rattle.import.proofs.Taking.{imported-exact, answer-kept}
 use Rattle.shorten.specs.Answer.{shortened, answer}
 use Rattle.shorten.specs.Clauses.{Kept, Shortens}
-use Rattle.shorten.proofs.Spelled.{imported-exact, made-spellable}
+use Rattle.shorten.proofs.Spelled.{made-spellable}
 
 -- what is printed, by what the pass leaves in its room
 pub shown : (h : Head) (l : List ℤ) (c : Counts) (room' : List ℤ) → Made h l c room' → shortened h l ≡ answered (qasm_text h.wires h.bits (take (width * c.gatesout) room'))

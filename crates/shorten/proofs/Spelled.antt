@@ -23,6 +23,7 @@ use Rattle.qasm.specs.Export.{unspelled}
 use Rattle.qasm.proofs.Gates.{all-spelled, spelled-all}
 use Rattle.qasm.proofs.Trips.{Spellable}
 use Rattle.import.specs.Answer.{head_for}
+use Rattle.import.proofs.Taking.{imported-exact}
 
 abbrev Spelled : Gate → Type 0
 Spelled g = spelled g.code ≡ true
@@ -50,11 +51,7 @@ gates-spelled : (ns : List ℤ) → Each Spelled (gates_of ns) → unspelled ns 
 unfolding unspelled gate_at
 gates-spelled ns e = all-spelled ns (length ns / width) zero (λ j h k. gates-each Spelled ns e j (omega arith)) ∙ zero-add (length ns / width)
 
--- a list that import gives is accepted
-pub imported-exact : (w b : ℕ) (ns : List ℤ) → Spellable list_gates w b ns → exact (head_for w b) ns ≡ accepted
-imported-exact w b ns s = right-exact (head_for w b) ns s.whole (omega (arith, s.few)) s.wires-fit s.bits_fit s.right
-
--- and what the pass makes of it can be exported
+-- what the pass makes of a list that import gives can be exported
 pub made-spellable : (w b : ℕ) (ns : List ℤ) → Spellable list_gates w b ns → Spellable list_gates w b (numbers_of (pass 128 512 (gates_of ns)).gates)
 made-spellable w b ns s =
     let e = imported-exact w b ns s in

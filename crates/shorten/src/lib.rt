@@ -1,58 +1,58 @@
 // A laboratory's text shortened in one go: read, each block of its gates written again where that is cheaper, and printed as a laboratory's text.
 #![tactic(auto)]
 
-ghost use Rattle.std.specs.Prelude.{◌≡◌, ◌*◌, ◌≤◌, length};
-ghost use Rattle.rules.specs.Refusal.{accepted};
+ghost use Rattle.std.proofs.Math.Nat.{le_refl};
 ghost use Rattle.spelling.specs.Sizes.{answer_bytes};
-ghost use Rattle.spelling.specs.Heads.{head_of};
-ghost use Rattle.saying.specs.Answer.{exact};
-ghost use Rattle.saying.specs.Clauses.{Says, Few};
+ghost use Rattle.import.specs.Answer as Import;
+ghost use Rattle.import.specs.Clauses.{right};
 ghost use Rattle.shorten.specs.Answer as Paper;
 ghost use Rattle.shorten.specs.Clauses.{Shortens};
 
-use cnot_min::Answer;
+use fitting::CnotMin;
 use rules::GATE_WIDTH;
-use saying::{Said, Taken};
+use saying::{Program, Reason, Said};
 use spelling::{ANSWER_BYTES, Head, LIST_GATES};
 
-// A list that was read from a laboratory's text is accepted, so that no refusal can come here.
-fn minimize(numbers: &[i32], head: Head, out: &mut [u8]) -> Said
-    requires few { Few numbers.now }
-    requires numbers_value { exact (head_of head) numbers.now ≡ accepted }
-    requires answer_bytes_in_bounds { answer_bytes ≤ length out.old }
-    ensures { Says (Paper.shortened (head_of head) numbers.now) out.old result out.new }
-{
-    let mut new = [0i32; GATE_WIDTH * LIST_GATES];
-    match fitting::minimize(numbers, head, &mut new) {
-        Answer::Refused(r) => saying::refuse(out, r.number as u32, r.place as u32, r.field as u32),
-        Answer::Done(c) => Said {
-            length: qasm::write_qasm(
-                out,
-                0,
-                head.wires,
-                head.bits,
-                &new[..GATE_WIDTH * c.gatesout],
-            ),
-            refused: false,
-        },
-    }
-}
+// The program.
+struct Minimize;
 
-// The answer goes into a room that always suffices.
-fn answer(text: &[u8], out: &mut [u8]) -> Said
-    requires { answer_bytes ≤ length out.old }
-    ensures { Says (Paper.answer text.now) out.old result out.new }
-{
-    let mut numbers = [0i32; GATE_WIDTH * LIST_GATES];
-    match import::take(text, &mut numbers, &mut *out) {
-        Taken::Refused(r) => r,
-        Taken::Good(head, n) => minimize(&numbers[..GATE_WIDTH * n], head, out),
+impl Program for Minimize {
+    ghost by = { Import.answer_by };
+
+    ghost right = { right };
+
+    ghost next = { Paper.shortened };
+
+    ghost room = { answer_bytes };
+
+    fn take(text: &[u8], numbers: &mut [i32]) -> Result<(Head, usize), Reason> {
+        import::take(text, numbers)
     }
+
+    // A list that was read from a laboratory's text is accepted, so that no refusal can come here.
+    fn say(numbers: &[i32], head: Head, out: &mut [u8]) -> Said {
+        let mut new = [0i32; GATE_WIDTH * LIST_GATES];
+        match fitting::minimize::<CnotMin>(numbers, head, &mut new) {
+            Ok(c) => Said {
+                length: qasm::write_qasm(
+                    out,
+                    0,
+                    head.wires,
+                    head.bits,
+                    &new[..GATE_WIDTH * c.gatesout],
+                ),
+                refused: false,
+            },
+            Err(r) => saying::refuse(out, Reason::List(r)),
+        }
+    }
+
+    ghost roomy = { le_refl answer_bytes };
 }
 
 // Every text gets an answer.
 pub fn shorten(text: &[u8], out: &mut [u8; ANSWER_BYTES]) -> Said
     ensures { Shortens text.now out.old result out.new }
 {
-    answer(text, out)
+    saying::answer::<Minimize>(text, out)
 }

@@ -1,12 +1,17 @@
 -- The x gates, part by part.
-use mathlib.Core.Path.{◌≡◌, refl, sym, ap, ◌∙◌}
+use mathlib.Core.Path.{◌≡◌, refl, sym, ap, ◌∙◌, subst}
+use mathlib.Core.Bool.{Bool, true, false}
 use mathlib.Core.List.{List, [], ◌∷◌, ◌++◌}
 use Prim.Native.Nat.{ℕ, zero, suc, ◌+◌, ◌-◌, ◌<◌}
 use native.Mathlib.Omega.{arith}
+use lib.IntN.{ℤ}
 use lib.ListN.{get_or}
 use Rattle.rules.specs.Gate.{Gate, gate1, code_x}
 use Rattle.rules.specs.Bit.{bit}
 use Rattle.rules.proofs.Bits.{split}
+use Rattle.rules.specs.Budget.{Budget}
+use Rattle.emit.specs.Emitted.{Emits}
+use Rattle.emit.proofs.Appending.{emits_then, emits-stop}
 use Rattle.synth.specs.Flips.{flip_if, flips_from}
 
 module _ (names : List ℕ) (v : ℕ) where
@@ -40,3 +45,13 @@ module _ (names : List ℕ) (v : ℕ) where
       let e : n ≡ (i + 1) + (n - (i + 1)) = omega arith in
       let f : 0 + (i + 1) ≡ i + 1 = omega arith in
       ap (λ (m : ℕ). flips_from names v m 0) e ∙ flips-append (i + 1) (n - (i + 1)) 0 ∙ ap (λ (j : ℕ). flips_from names v (i + 1) 0 ++ flips_from names v (n - (i + 1)) j) f
+
+  module _ {o o₁ o₂ : List ℤ} {b b₁ b₂ : Budget} {w : Bool} (i : ℕ) (before : Emits (flips_from names v i 0) o b o₁ b₁ true)
+      (one : Emits (flip_if (bit v i) (get_or names i 0)) o₁ b₁ o₂ b₂ w) where
+    -- one index more is emitted
+    pub flips-more : Emits (flips_from names v (i + 1) 0) o b o₂ b₂ w
+    flips-more = rw (flips-next i) (emits_then before one)
+
+    -- or the budget was spent by it
+    pub flips-stop : (n : ℕ) → i < n → w ≡ false → Emits (flips_from names v n 0) o b o₂ b₂ false
+    flips-stop n l e = rw (flips-rest n i l) (emits-stop (flips_from names v (i + 1) 0) _ _ _ _ _ (subst (Emits (flips_from names v (i + 1) 0) o b o₂ b₂) e flips-more))

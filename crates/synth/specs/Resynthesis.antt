@@ -1,5 +1,5 @@
 -- What a resynthesis asks of its rooms, and promises.
-use Rattle.std.specs.Prelude.{◌≡◌, Bool, false, List, ℕ, ◌+◌, ◌*◌, ◌^◌, ◌≤◌, ◌<◌, ℤ, length, get_or}
+use Rattle.std.specs.Prelude.{◌≡◌, Bool, false, List, ℕ, ◌+◌, ◌^◌, ◌≤◌, ◌<◌, ℤ, length, get_or}
 use Rattle.std.proofs.Math.Option.{none, some}
 use Rattle.rules.specs.Limits.{max_columns}
 use Rattle.rules.specs.Gate.{Gate}
@@ -9,25 +9,26 @@ use Rattle.rules.specs.Budget.{Budget}
 use Rattle.terms.specs.Terms.{terms_of}
 use Rattle.rows.specs.Rows.{rows_of}
 use Rattle.emit.specs.Emitted.{Emits}
-use Rattle.walk.specs.Stack.{node_width}
+use Rattle.parity.specs.declared.Parity.{Parity}
+use Rattle.walk.specs.declared.Slot.{Slot}
 use Rattle.closing.specs.Emission.{Wired, step_room}
 use Rattle.block.specs.declared.Block as State
 
 -- rooms of the block's n wires for its walk: their names, a matrix, the terms, a node more than wires
-pub record Walkable (b : State.Block) (names room nodes from : List ℕ) : Type 0 where
+pub record Walkable (b : State.Block) (names room : List ℕ) (nodes : List Slot) (from : List Parity) : Type 0 where
   pub few : b.wires ≤ max_columns
   pub named : length names ≡ b.wires
   pub wired : Wired names
   pub terms : b.terms ≤ length (terms_of room)
-  pub deep : node_width * (b.wires + 1) ≤ length nodes
-  pub held : length from ≡ 2 * b.wires
+  pub deep : b.wires + 1 ≤ length nodes
+  pub held : length from ≡ b.wires
 
 -- and for the rest: the block's rows, one more matrix, and steps for all gates that the budget allows
-pub record Rooms (b : State.Block) (names rows room nodes from spare steps : List ℕ) (most : ℕ) : Type 0 where
+pub record Rooms (b : State.Block) (names : List ℕ) (rows : List Parity) (room : List ℕ) (nodes : List Slot) (from spare : List Parity) (steps : List ℕ) (most : ℕ) : Type 0 where
   pub walkable : Walkable b names room nodes from
-  pub wide : length rows ≡ 2 * b.wires
+  pub wide : length rows ≡ b.wires
   pub below : (i : ℕ) → i < b.wires → get_or (rows_of rows) i 0 < 2 ^ b.wires
-  pub right : length spare ≡ 2 * b.wires
+  pub right : length spare ≡ b.wires
   pub long : step_room most b.wires ≤ length steps
 
 -- the block's resynthesis, emitted; where it has none, lost

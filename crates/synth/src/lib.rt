@@ -5,7 +5,7 @@ ghost use Rattle.std.specs.Prelude.{◌≡◌, ℕ, ◌≤◌, ◌<◌, ◌^◌,
 ghost use Rattle.rules.specs.Walk.{phase_walk};
 ghost use Rattle.rules.specs.Close.{units};
 ghost use Rattle.parity.specs.View.{val};
-ghost use Rattle.budget.specs.View.{view};
+ghost use Rattle.budget.specs.View.{view, counts_after, made};
 ghost use Rattle.emit.specs.Emitted.{Ready, Emits};
 ghost use Rattle.rows.specs.Rows.{rows_of};
 ghost use Rattle.walk.specs.Place.{Synthesized};
@@ -14,50 +14,40 @@ ghost use Rattle.synth.specs.Flips.{flip_if, flips_from};
 ghost use Rattle.synth.specs.Resynthesis.{Walkable, Rooms, Synthesizes};
 
 use block::Block;
-use budget::{Budget, Pushed};
+use budget::{Budget, Spent};
 use join::{Local, Wire};
 use parity::Parity;
+use rules::TERM_WIDTH;
+use walk::Slot;
 
 // An x, if the constant is true.
-fn emit_flip(on: bool, q: Wire, out: &mut [i32], b: Budget) -> Pushed
+fn emit_flip(on: bool, q: Wire, out: &mut [i32], b: Budget) -> Result<Budget, Spent>
     requires ready { Ready out.old (view b) }
     requires q_bound { q.0 < 2 ^ 31 }
-    ensures { Emits (flip_if on q.0) out.old (view b) out.new (view result.budget) result.within }
+    ensures { Emits (flip_if on q.0) out.old (view b) out.new (counts_after result) (made result) }
 {
-    if on {
-        emit::emit_x(out, b, q)
-    } else {
-        Pushed {
-            budget: b,
-            within: true,
-        }
-    }
+    if on { emit::emit_x(out, b, q) } else { Ok(b) }
 }
 
 // An x on each of the first n local indices whose constant is true, ascending.
-fn emit_flips(flips: Parity, n: u32, names: &[u32], out: &mut [i32], b: Budget) -> Pushed
+fn emit_flips(
+    flips: Parity,
+    n: u32,
+    names: &[u32],
+    out: &mut [i32],
+    b: Budget,
+) -> Result<Budget, Spent>
     requires ready { Ready out.old (view b) }
     requires n_bound { (n ≤ 128) × ((n ≤ length names.now) × ((i : ℕ) → i < length names.now → get_or names.now i 0 < 2 ^ 31)) }
-    ensures { Emits (flips_from names.now (val flips) n 0) out.old (view b) out.new (view result.budget) result.within }
+    ensures { Emits (flips_from names.now (val flips) n 0) out.old (view b) out.new (counts_after result) (made result) }
 {
     let mut spent = b;
     for i in 0..n {
-        let p = emit_flip(
-            flips.has(i),
-            join::wire_of(names, Local(i)),
-            &mut *out,
-            spent,
-        );
-        spent = p.budget;
-        let within = p.within;
-        if !within {
-            return p;
-        }
+        let on = flips.has(i);
+        let q = join::wire_of(names, Local(i));
+        spent = emit_flip(on, q, &mut *out, spent)?;
     }
-    Pushed {
-        budget: spent,
-        within: true,
-    }
+    Ok(spent)
 }
 
 // The phase walk of the block's terms other than 0, from the unit rows.
@@ -65,18 +55,18 @@ fn emit_walk(
     block: Block,
     names: &[u32],
     room: &mut [u64],
-    nodes: &mut [u64],
-    held: &mut [u64],
+    nodes: &mut [Slot],
+    held: &mut [Parity],
     out: &mut [i32],
     b: Budget,
-) -> Pushed
+) -> Result<Budget, Spent>
     requires walkable { Walkable block names.now room.old nodes.old held.old }
     requires ready { Ready out.old (view b) }
-    ensures { Synthesized names.now (phase_walk block.wires (terms_at block room.old)) out.old (view b) (units block.wires 0) out.new (view result.budget) (rows_of held.new) result.within }
+    ensures { Synthesized names.now (phase_walk block.wires (terms_at block room.old)) out.old (view b) (units block.wires 0) out.new (counts_after result) (rows_of held.new) (made result) }
 {
     let count = block.terms;
     let entering = terms::compact(&mut *room, count);
-    let end = 3 * entering;
+    let end = TERM_WIDTH * entering;
     rows::set_units(&mut *held);
     walk::gray_synth(&mut room[..end], block.wires, nodes, held, names, out, b)
 }
@@ -85,32 +75,20 @@ fn emit_walk(
 pub fn synthesize(
     block: Block,
     names: &[u32],
-    rows: &[u64],
+    rows: &[Parity],
     room: &mut [u64],
-    nodes: &mut [u64],
-    held: &mut [u64],
-    right: &mut [u64],
+    nodes: &mut [Slot],
+    held: &mut [Parity],
+    right: &mut [Parity],
     steps: &mut [u32],
     out: &mut [i32],
     b: Budget,
-) -> Pushed
+) -> Result<Budget, Spent>
     requires rooms { Rooms block names.now rows.now room.old nodes.old held.old right.old steps.old b.maxall }
     requires ready { Ready out.old (view b) }
-    ensures { Synthesizes (block_at block names.now rows.now room.old) out.old (view b) out.new (view result.budget) result.within }
+    ensures { Synthesizes (block_at block names.now rows.now room.old) out.old (view b) out.new (counts_after result) (made result) }
 {
-    let flips = block.flips;
-    let n = block.wires;
-    let w = emit_walk(block, names, room, nodes, &mut *held, &mut *out, b);
-    let walked = w.within;
-    let left = w.budget;
-    if !walked {
-        return w;
-    }
-    let c = closing::linear_synth(&mut *held, rows, right, names, steps, &mut *out, left);
-    let closed = c.within;
-    let rest = c.budget;
-    if !closed {
-        return c;
-    }
-    emit_flips(flips, n, names, &mut *out, rest)
+    let walked = emit_walk(block, names, room, nodes, &mut *held, &mut *out, b)?;
+    let closed = closing::linear_synth(held, rows, right, names, steps, &mut *out, walked)?;
+    emit_flips(block.flips, block.wires, names, out, closed)
 }

@@ -13,7 +13,8 @@ use native.Mathlib.Nat.{add-zero}
 use lib.ListN.{length, get_or, take}
 use lib.Seq.{length-take-le}
 use lib.Dec.{eqb, leb, ltb}
-use borrow.Author.Tests.{eq-eqb, ne_eqb, leb-true, leb-false}
+use borrow.Author.Tests.{eq-eqb, ne_eqb, leb-true, leb-false, le-ltb, lt-ltb}
+use Rattle.std.specs.Prelude.{Option, Some, None, SomeIff, is_some}
 use Rattle.rules.specs.Limits.{max_columns}
 use Rattle.rules.specs.Gate.{second}
 use Rattle.rules.specs.Meaning.{flip, phase, cnot, cz, other, op}
@@ -21,9 +22,10 @@ use Rattle.rules.specs.Fold.{Row, Term, Block, joined, row_of, join, fresh, ente
 use Rattle.rules.specs.Plan.{Plan}
 use Rattle.rules.specs.Scan.{has_term, roomy, takes}
 use Rattle.rules.proofs.Bits.{split, same}
+use Rattle.parity.specs.declared.Parity.{Parity}
 use Rattle.rows.specs.Rows.{rows_of}
 use Rattle.terms.specs.Terms.{terms_of, place, Indexed}
-use Rattle.terms.proofs.Places.{place-has}
+use Rattle.terms.proofs.Places.{not-lt, place-has}
 use Rattle.gate.specs.Writing.{gate_of}
 use Rattle.gate.specs.declared.Gate.{Gate}
 use Rattle.block.specs.View.{rows_at, terms_at, block_at, Folded, Rowed, Holds}
@@ -69,7 +71,7 @@ parity-new n v x held e f = rw e f
 flipped : (v : ℕ) → cond (not (eqb v 0)) 0 1 ≡ new v
 flipped v = split (eqb v 0) (λ e. rw e) (λ e. rw e)
 
-module _ {b : State.Block} {table names rows : List ℕ} (h : Rowed b table names rows) where
+module _ {b : State.Block} {table names : List ℕ} {rows : List Parity} (h : Rowed b table names rows) where
   pub fits_one : (q : ℕ) → length (join q (rows_at b names rows)) ≡ b.wires + new (get_or table q 0)
   fits_one q =
       join-size q (rows_at b names rows)
@@ -146,13 +148,18 @@ fits_fresh n v e cap h z =
     omega (arith, leb-true (n + 1 + e) cap k)
 
 -- a full table is searched
-pub searched : (n p q at : ℕ) (room : List ℕ) → n ≤ length (terms_of room) → at ≡ place p (take n (terms_of room)) → p ≡ q → ltb at n ≡ has_term q (take n (terms_of room))
-searched n p q at room m f g =
+pub searched : (n p q : ℕ) (found : Option ℕ) (room : List ℕ) → n ≤ length (terms_of room)
+    → SomeIff found (place p (take n (terms_of room)) < n) (place p (take n (terms_of room))) → p ≡ q → is_some found ≡ has_term q (take n (terms_of room))
+searched n p q found room m f g =
     let ts : List Term = take n (terms_of room) in
-    ap₂ ltb f (sym (length-take-le n (terms_of room) m)) ∙ place-has p ts ∙ ap (λ (k : ℕ). has_term k ts) g
+    told found f ∙ ap (ltb (place p ts)) (sym (length-take-le n (terms_of room) m)) ∙ place-has p ts ∙ ap (λ (k : ℕ). has_term k ts) g
+  where
+    told : (o : Option ℕ) → SomeIff o (place p (take n (terms_of room)) < n) (place p (take n (terms_of room))) → is_some o ≡ ltb (place p (take n (terms_of room))) n
+    told None f = sym (le-ltb _ _ (not-lt f))
+    told (Some i) f = sym (lt-ltb _ _ f.0)
 
 -- what the test asks, of a state that stands for a block
-pub ask-ready : {p : Block} {b : State.Block} {table names rows room heads : List ℕ} → Holds p b table names rows room
+pub ask-ready : {p : Block} {b : State.Block} {table names : List ℕ} {rows : List Parity} {room heads : List ℕ} → Holds p b table names rows room
     → (g : Gate) (cap : ℕ) → Wired g table → cap ≤ max_columns → Indexed heads room b.terms → Askable b g table rows room cap heads
 ask-ready h g cap w l x = record {
   wired = w;

@@ -14,7 +14,7 @@ ghost use Rattle.taking.specs.Asking.{new, parity_at, last_wire, Held, Askable};
 
 use block::Block;
 use gate::Gate;
-use join::{Place, Wire};
+use join::Wire;
 use parity::Parity;
 use plan::Plan;
 use rules::{CODE_CNOT, CODE_CZ, CODE_X};
@@ -48,14 +48,14 @@ fn fits(b: Block, c: Wire, t: Wire, two: bool, table: &[u32], cap: usize) -> boo
 }
 
 // The parity that a wire holds once it has joined.
-fn parity_of(b: Block, q: Wire, table: &[u32], rows: &[u64]) -> Parity
+fn parity_of(b: Block, q: Wire, table: &[u32], rows: &[Parity]) -> Parity
     requires { Held b q.0 table.now rows.now }
     ensures { val result ≡ parity_at b.wires (rows_of rows.now) (get_or table.now q.0 0) }
 {
-    let Place::At(at) = join::place_of(table, q) else {
-        return Parity::single(b.wires);
-    };
-    rows::get(rows, at.0 as usize)
+    match join::place_of(table, q) {
+        Some(at) => rows[at.0 as usize],
+        None => Parity::single(b.wires),
+    }
 }
 
 // Whether a gate can go on the block, whatever the names are that its rows bear. The table of terms is searched only for a rotation, and only if it
@@ -64,7 +64,7 @@ pub fn takes(
     b: Block,
     g: Gate,
     table: &[u32],
-    rows: &[u64],
+    rows: &[Parity],
     room: &[u64],
     plan: Plan,
     heads: &[u32],
@@ -85,5 +85,5 @@ pub fn takes(
         return true;
     }
     let p = parity_of(b, first, table, rows);
-    terms::find(room, b.terms, p, heads) < b.terms
+    terms::find(room, b.terms, p, heads).is_some()
 }

@@ -6,7 +6,7 @@
 use mathlib.Core.Path.{◌≡◌, refl, sym, ap, ◌∙◌}
 use mathlib.Core.Logic.{◌≢◌}
 use mathlib.Core.Bool.{false}
-use Prim.Native.Nat.{ℕ, zero, suc, ◌-◌, ◌≤◌, ◌<◌}
+use Prim.Native.Nat.{ℕ, zero, suc, ◌≤◌, ◌<◌}
 use native.Mathlib.Nat.{not-suc-le-zero}
 use native.Mathlib.Omega.{arith}
 use lib.Dec.{eqb, leb}
@@ -80,7 +80,7 @@ module _ (f head : ℕ → ℕ) (n h : ℕ) (said : (i : ℕ) → i < n → suc 
 
 pub record Down (f parity : ℕ → ℕ) (n p i : ℕ) : Type 0 where
   pub within : i ≤ n
-  pub hash : 0 < i → f (parity (i - 1)) ≡ f p
+  pub hash : (j : ℕ) → i ≡ suc j → f (parity j) ≡ f p
   pub none : (j : ℕ) → i ≤ j → j < n → parity j ≢ p
 
 module _ (f parity : ℕ → ℕ) (n p : ℕ) where
@@ -88,7 +88,7 @@ module _ (f parity : ℕ → ℕ) (n p : ℕ) where
   down-from : (m i : ℕ) → i ≡ last_of (λ j. f (parity j)) (f p) m → m ≤ n → ((j : ℕ) → m ≤ j → j < n → parity j ≢ p) → Down f parity n p i
   down-from m i e l past = record {
     within = omega (arith, last-le (λ j. f (parity j)) (f p) m);
-    hash = λ b. last-at (λ j. f (parity j)) (f p) m (i - 1) (omega arith);
+    hash = λ j b. last-at (λ j. f (parity j)) (f p) m j (sym e ∙ b);
     none = λ j a b. split (leb m j) (λ t. past j (leb-true m j t) b)
         (λ t q. last_none (λ j. f (parity j)) (f p) m j (omega arith) (omega (arith, leb-false m j t)) (ap f q));
   }
@@ -97,21 +97,21 @@ module _ (f parity : ℕ → ℕ) (n p : ℕ) where
     pub chain_first : (i : ℕ) → i ≡ last_of (λ j. f (parity j)) (f p) n → Down f parity n p i
     chain_first i e = down-from n i e (omega arith) (λ j a b. absurd (omega arith))
 
-    module _ (i : ℕ) (d : Down f parity n p i) where
-      next-is : 0 < i → link (i - 1) ≡ last_of (λ j. f (parity j)) (f p) (i - 1)
-      next-is b = rw (d.hash b) at (s.links (i - 1) (omega (arith, d.within)))
+    module _ (i : ℕ) (d : Down f parity n p (suc i)) where
+      next-is : link i ≡ last_of (λ j. f (parity j)) (f p) i
+      next-is = rw (d.hash i refl) at (s.links i d.within)
 
-      pub chain-less : 0 < i → link (i - 1) < i
-      chain-less b = omega (arith, next-is b, last-le (λ j. f (parity j)) (f p) (i - 1))
+      pub chain-less : link i < suc i
+      chain-less = omega (arith, next-is, last-le (λ j. f (parity j)) (f p) i)
 
-      pub chain_next : 0 < i → parity (i - 1) ≢ p → Down f parity n p (link (i - 1))
-      chain_next b o = down-from (i - 1) (link (i - 1)) (next-is b) (omega (arith, d.within)) past
+      pub chain_next : parity i ≢ p → Down f parity n p (link i)
+      chain_next o = down-from i (link i) next-is (omega (arith, d.within)) past
         where
-          past : (j : ℕ) → i - 1 ≤ j → j < n → parity j ≢ p
-          past j a l = split (eqb j (i - 1)) (λ t. rw (eqb-true j (i - 1) t) o) (λ t. d.none j (omega (arith, eqb-false j (i - 1) t)) l)
+          past : (j : ℕ) → i ≤ j → j < n → parity j ≢ p
+          past j a l = split (eqb j i) (λ t. rw (eqb-true j i t) o) (λ t. d.none j (omega (arith, eqb-false j i t)) l)
 
-      pub chain-met : 0 < i → parity (i - 1) ≡ p → (j : ℕ) → j < i - 1 → parity j ≢ p
-      chain-met b e j l q = s.apart j (i - 1) l (omega (arith, d.within)) (q ∙ sym e)
+      pub chain-met : parity i ≡ p → (j : ℕ) → j < i → parity j ≢ p
+      chain-met e j l q = s.apart j i l d.within (q ∙ sym e)
 
 -- ---- what a store does to the index
 

@@ -1,6 +1,6 @@
 -- The view of a room of numbers as terms.
 --     room-length    how many terms a room has
---     room-enough    a term's three numbers stand in the room
+--     room_size      the same for the check's tactics
 --     room-get       they are the term
 --     room_word, room-turn    the third, of which the turn is a part
 --     room-put       storing three numbers stores the term
@@ -10,7 +10,7 @@ use mathlib.Core.List.{List, [], ◌∷◌, ◌++◌}
 use Prim.Native.Nat.{ℕ, zero, suc, ◌+◌, ◌-◌, ◌*◌, ◌/◌, ◌%◌, ◌^◌, ◌≤◌, ◌<◌}
 use native.Mathlib.Nat.{not-suc-le-zero, le_of_suc-le-suc}
 use native.Mathlib.Omega.{arith}
-use lib.ListN.{length, get_or, set, take, drop}
+use lib.ListN.{length, get_or, set, take, drop, length-set}
 use lib.Seq.{drop-set-lt}
 use Rattle.rules.specs.Fold.{Term}
 use Rattle.terms.specs.Terms.{terms_of, words_of, no_term, Stores}
@@ -22,8 +22,8 @@ room-length (a ∷ []) = refl
 room-length (a ∷ b ∷ []) = refl
 room-length (a ∷ b ∷ c ∷ xs) = let h = room-length xs in omega arith
 
-pub room-enough : (xs : List ℕ) (i : ℕ) → i < length (terms_of xs) → 3 * i + 2 < length xs
-room-enough xs i l = let h = room-length xs in omega arith
+-- what the size of a room says to the check, also after a store
+pub ruleset room_size = (room-length, length-set)
 
 -- rooms of one length have as many terms
 pub room-same : (xs ys : List ℕ) → length xs ≡ length ys → length (terms_of xs) ≡ length (terms_of ys)

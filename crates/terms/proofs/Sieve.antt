@@ -1,28 +1,29 @@
--- Sieving a list in place, front to back: what the loop knows after k rounds, of which `mid` kept their term.
--- The terms that f drops are not lost: they stand behind those that it leaves, in some order.
+-- Gathering in place, front to back, the terms that a test takes: what the loop knows after k rounds, of which `mid` kept their term.
+-- The others are not lost: they stand behind those, in some order.
 --     sieve-none    before the first round
---     sieve-read    the term at k is still the one that the loop began with
---     sieve-round   it is exchanged with the one at mid, and mid moves by whether it is kept
---     sieve-front   after the last round: the terms that are kept, and the rest of the room
---     sieve-spent, sieve-nonzero    a round and the end, where terms of turn 0 are dropped
---     sieve-column, sieve-sides     a round and the end, where a whole list is split by a column
+--     sieve-length  the terms are as many
+--     sieve-round   the term at k is exchanged with the one at mid, and mid moves by whether it is kept
+--     sieve-all     after the last round
+--     nonzero-filter, sides_filter    the two uses: terms of turn 0 fall, a whole list is split by a column
 use mathlib.Core.Path.{◌≡◌, refl, sym, ap, ◌∙◌}
 use mathlib.Core.Bool.{Bool, true, false, not, cond}
 use mathlib.Core.List.{List, [], ◌∷◌, ◌++◌, append_assoc, append-nil}
-use Prim.Native.Nat.{ℕ, zero, suc, ◌+◌, ◌-◌, ◌%◌, ◌≤◌, ◌<◌}
+use Prim.Native.Nat.{ℕ, zero, suc, ◌+◌, ◌%◌, ◌≤◌, ◌<◌}
 use native.Mathlib.Nat.{add-zero}
 use native.Mathlib.Numerals.{add-one}
 use native.Mathlib.Omega.{arith}
 use lib.ListN.{length, get_or, set, take, drop, length-append, length-drop}
-use lib.Seq.{take-suc, drop-cons, take-length, drop-length, take_at, drop_at, get_or_at, set_at}
+use lib.Seq.{drop-cons, take-length, take_at, drop_at, get_or_at, set_at}
 use lib.Dec.{eqb}
 use borrow.Author.Tests.{ne_eqb}
-use Rattle.rules.specs.Bit.{◌⊕◌, bit}
+use Rattle.std.proofs.lemmas.List.Elements.{filter_more}
+use Rattle.std.specs.List.{filter}
+use Rattle.rules.specs.Bit.{bit}
 use Rattle.rules.specs.Fold.{Term}
 use Rattle.rules.specs.Walk.{side, nonzero, is_none}
 use Rattle.rules.specs.Order.{Shuffled, same, keep, swap, next}
 use Rattle.rules.proofs.Bits.{split}
-use Rattle.terms.specs.Terms.{no_term, exchanged, Begins, Sides}
+use Rattle.terms.specs.Terms.{no_term, exchanged, Gathers, Sides}
 
 -- ---- the same terms in another order
 
@@ -41,41 +42,6 @@ shuffled-add x same = same
 shuffled-add x (keep s) = keep (shuffled-add x s)
 shuffled-add x swap = swap
 shuffled-add x (next s t) = next (shuffled-add x s) (shuffled-add x t)
-
--- ---- the terms that a test does not drop
-
-unfoldable pub left : (Term → Bool) → List Term → List Term
-left f [] = []
-left f (t ∷ ts) = cond (f t) (left f ts) (t ∷ left f ts)
-
--- a term without the column is dropped (true), or one with it (false)
-abbrev pub lacks : Bool → ℕ → Term → Bool
-lacks b c t = b ⊕ bit t.parity c
-
--- a term is dropped whose turn is 0 modulo 8
-abbrev pub spent : Term → Bool
-spent t = is_none (t.turn % 8)
-
-side_left : (b : Bool) (c : ℕ) (ts : List Term) → side b c ts ≡ left (lacks b c) ts
-unfolding side left
-side_left b c [] = refl
-side_left b c (t ∷ ts) = ap (λ (r : List Term). cond (lacks b c t) r (t ∷ r)) (side_left b c ts)
-
-nonzero-left : (ts : List Term) → nonzero ts ≡ left spent ts
-unfolding nonzero left
-nonzero-left [] = refl
-nonzero-left (t ∷ ts) = ap (λ (r : List Term). cond (spent t) r (t ∷ r)) (nonzero-left ts)
-
-module _ (f : Term → Bool) (x : Term) where
-  left-keep : f x ≡ false → (ts : List Term) → left f (ts ++ (x ∷ [])) ≡ left f ts ++ (x ∷ [])
-  unfolding left
-  left-keep e [] = rw e
-  left-keep e (t ∷ ts) = split (f t) (λ h. rw h (left-keep e ts)) (λ h. rw h (ap (λ (r : List Term). t ∷ r) (left-keep e ts)))
-
-  left-drop : f x ≡ true → (ts : List Term) → left f (ts ++ (x ∷ [])) ≡ left f ts
-  unfolding left
-  left-drop e [] = rw e
-  left-drop e (t ∷ ts) = split (f t) (λ h. rw h (left-drop e ts)) (λ h. rw h (ap (λ (r : List Term). t ∷ r) (left-drop e ts)))
 
 -- ---- the term after `behind` is exchanged with the first of `behind`
 
@@ -108,118 +74,119 @@ moved a (z ∷ b) r x mid k p q =
       same = shuffled-snoc b z;
     }
 
--- ---- the loop: f drops a term, g drops the others
+-- ---- the loop
 
-pub record Sieved (f g : Term → Bool) (start now : List Term) (mid k : ℕ) : Type 0 where
+pub record Sieved (p : Term → Bool) (start now : List Term) (mid k : ℕ) : Type 0 where
   pub behind : List Term
-  pub whole : now ≡ left f (take k start) ++ (behind ++ drop k start)
-  pub many : length (left f (take k start)) ≡ mid
+  pub whole : now ≡ filter p (take k start) ++ (behind ++ drop k start)
+  pub many : length (filter p (take k start)) ≡ mid
   pub reach : mid + length behind ≡ k
-  pub shuffled : Shuffled behind (left g (take k start))
+  pub shuffled : Shuffled behind (filter (λ t. not (p t)) (take k start))
 
-pub sieve-none : (f g : Term → Bool) (ts : List Term) → Sieved f g ts ts 0 0
-unfolding left
-sieve-none f g ts = record { behind = []; whole = refl; many = refl; reach = refl; shuffled = same }
+pub sieve-none : (p : Term → Bool) (ts : List Term) → Sieved p ts ts 0 0
+sieve-none p ts = record { behind = []; whole = refl; many = refl; reach = refl; shuffled = same }
 
-module _ (f g : Term → Bool) (mid k : ℕ) (start now : List Term) (s : Sieved f g start now mid k) where
-  pub sieve-within : mid ≤ k
-  sieve-within = omega (arith, s.reach)
+module _ (p : Term → Bool) (mid k : ℕ) (start now : List Term) (s : Sieved p start now mid k) where
+  -- what the list holds up to k
+  front : length (filter p (take k start) ++ s.behind) ≡ k
+  front = simp length-append (omega (arith, s.many, s.reach))
+
+  split_at : now ≡ (filter p (take k start) ++ s.behind) ++ drop k start
+  split_at = s.whole ∙ sym (append_assoc (filter p (take k start)) s.behind (drop k start))
+
+  -- a round, by whether the term x that was read is kept
+  pub sieve-round : (x : Term) (kept : Bool) → k < length start → x ≡ get_or now k no_term → kept ≡ p x
+      → Sieved p start (exchanged now mid k) (mid + cond kept 1 0) (k + 1)
+  sieve-round x kept l r t = go kept refl
+    where
+      tail : drop k start ≡ get_or start k no_term ∷ drop (k + 1) start
+      tail = rw add-one (drop-cons start k no_term l)
+
+      read : get_or now k no_term ≡ get_or start k no_term
+      read = ap (λ (ts : List Term). get_or ts k no_term) (split_at ∙ ap (λ (ts : List Term). (filter p (take k start) ++ s.behind) ++ ts) tail)
+          ∙ get_or_at (filter p (take k start) ++ s.behind) _ (drop (k + 1) start) no_term k front
+
+      seen : now ≡ filter p (take k start) ++ (s.behind ++ (x ∷ drop (k + 1) start))
+      seen = rw (r ∙ read) (s.whole ∙ ap (λ (ts : List Term). filter p (take k start) ++ (s.behind ++ ts)) tail)
+
+      m : Moved (filter p (take k start)) s.behind (drop (k + 1) start) x mid k
+      m = moved (filter p (take k start)) s.behind (drop (k + 1) start) x mid k s.many s.reach
+
+      more : (q : Term → Bool) (b : Bool) → b ≡ q x → filter q (take (k + 1) start) ≡ filter q (take k start) ++ cond b (x ∷ []) []
+      more q b e = rw (e, r ∙ read) (filter_more q start k no_term l)
+
+      go : (b : Bool) → kept ≡ b → Sieved p start (exchanged now mid k) (mid + cond b 1 0) (k + 1)
+      go true e =
+          let w = more p true (sym e ∙ t) in
+          let o = more (λ u. not (p u)) false (ap not (sym e ∙ t)) in
+          record {
+            behind = m.after;
+            whole = rw w (ap (λ (ts : List Term). exchanged ts mid k) seen ∙ m.list);
+            many = rw w (simp length-append (omega (arith, s.many)));
+            reach = omega (arith, m.long, s.reach);
+            shuffled = rw (o, append-nil) (next m.same s.shuffled);
+          }
+      go false e =
+          let w = more p false (sym e ∙ t) in
+          let o = more (λ u. not (p u)) true (ap not (sym e ∙ t)) in
+          record {
+            behind = x ∷ m.after;
+            whole = rw (w, append-nil) (ap (λ (ts : List Term). exchanged ts mid k) seen ∙ m.list ∙ simp append_assoc);
+            many = rw (w, append-nil) (s.many ∙ sym (add-zero mid));
+            reach = omega (arith, m.long, s.reach);
+            shuffled = rw o (next (keep m.same) (next (shuffled-sym (shuffled-snoc s.behind x)) (shuffled-add x s.shuffled)));
+          }
 
   pub sieve-length : k ≤ length start → length now ≡ length start
-  sieve-length l =
-      let e : length now ≡ length (left f (take k start)) + (length s.behind + (length start - k)) = ap length s.whole ∙ simp (length-append, length-drop) in
-      omega (arith, s.many, s.reach)
+  sieve-length l = ap length split_at ∙ simp (length-append {A = Term}, length-drop {A = Term}) (omega (arith, s.many, s.reach))
 
-  module _ (l : k < length start) where
-    more : take (k + 1) start ≡ take k start ++ (get_or start k no_term ∷ [])
-    more = rw add-one (take-suc start k no_term l)
+  pub sieve-all : Gathers p k start mid now
+  sieve-all =
+      let t : take k now ≡ filter p (take k start) ++ s.behind = ap (take k) split_at ∙ take_at (filter p (take k start) ++ s.behind) _ k front in
+      record {
+        begins = record {
+          many = s.many;
+          front = ap (take mid) s.whole ∙ take_at (filter p (take k start)) _ mid s.many;
+          rest = ap (drop k) split_at ∙ drop_at (filter p (take k start) ++ s.behind) _ k front;
+        };
+        others = rw (t, drop_at (filter p (take k start)) s.behind mid s.many) s.shuffled;
+      }
 
-    seen : now ≡ left f (take k start) ++ (s.behind ++ (get_or start k no_term ∷ drop (k + 1) start))
-    seen = s.whole ∙ ap (λ (t : List Term). left f (take k start) ++ (s.behind ++ t)) (rw add-one (drop-cons start k no_term l))
+-- ---- the two tests of the code
 
-    pub sieve-read : get_or now k no_term ≡ get_or start k no_term
-    sieve-read =
-        let a : List Term = left f (take k start) ++ s.behind in
-        let h : length a ≡ k = simp length-append (omega (arith, s.many, s.reach)) in
-        ap (λ (t : List Term). get_or t k no_term) (seen ∙ sym (append_assoc (left f (take k start)) s.behind (get_or start k no_term ∷ drop (k + 1) start)))
-        ∙ get_or_at a (get_or start k no_term) (drop (k + 1) start) no_term k h
+-- a term is kept whose turn is other than 0 modulo 8
+abbrev pub turns : Term → Bool
+turns t = not (eqb (t.turn % 8) 0)
 
-    -- a round, by whether the term is kept
-    pub sieve-round : (kept : Bool) → f (get_or start k no_term) ≡ not kept → g (get_or start k no_term) ≡ kept
-        → Sieved f g start (exchanged now mid k) (mid + cond kept 1 0) (k + 1)
-    sieve-round kept p q = go kept p q
-      where
-        x : Term
-        x = get_or start k no_term
-
-        m : Moved (left f (take k start)) s.behind (drop (k + 1) start) x mid k
-        m = moved (left f (take k start)) s.behind (drop (k + 1) start) x mid k s.many s.reach
-
-        go : (b : Bool) → f x ≡ not b → g x ≡ b → Sieved f g start (exchanged now mid k) (mid + cond b 1 0) (k + 1)
-        go true p q =
-            let w : left f (take (k + 1) start) ≡ left f (take k start) ++ (x ∷ []) = ap (left f) more ∙ left-keep f x p (take k start) in
-            let o : left g (take (k + 1) start) ≡ left g (take k start) = ap (left g) more ∙ left-drop g x q (take k start) in
-            record {
-              behind = m.after;
-              whole = rw w (ap (λ (t : List Term). exchanged t mid k) seen ∙ m.list);
-              many = rw w (simp length-append (omega (arith, s.many)));
-              reach = omega (arith, m.long, s.reach);
-              shuffled = rw o (next m.same s.shuffled);
-            }
-        go false p q =
-            let w : left f (take (k + 1) start) ≡ left f (take k start) = ap (left f) more ∙ left-drop f x p (take k start) in
-            let o : left g (take (k + 1) start) ≡ left g (take k start) ++ (x ∷ []) = ap (left g) more ∙ left-keep g x q (take k start) in
-            record {
-              behind = x ∷ m.after;
-              whole = rw w (ap (λ (t : List Term). exchanged t mid k) seen ∙ m.list ∙ simp append_assoc);
-              many = rw w (s.many ∙ sym (add-zero mid));
-              reach = omega (arith, m.long, s.reach);
-              shuffled = rw o (next (keep m.same) (next (shuffled-sym (shuffled-snoc s.behind x)) (shuffled-add x s.shuffled)));
-            }
-
-  pub sieve-front : Begins (left f (take k start)) mid k start now
-  sieve-front = record { many = s.many; front = ap (take mid) s.whole ∙ take_at (left f (take k start)) _ mid s.many; rest = back }
-    where
-      back : drop k now ≡ drop k start
-      back =
-          let h : length (left f (take k start) ++ s.behind) ≡ k = simp length-append (omega (arith, s.many, s.reach)) in
-          ap (drop k) (s.whole ∙ sym (append_assoc (left f (take k start)) s.behind (drop k start)))
-          ∙ drop_at (left f (take k start) ++ s.behind) (drop k start) k h
-
--- ---- the two sieves of the code
-
-pub sieve-spent : (mid k : ℕ) (x : Term) (start now : List Term) → Sieved spent (λ t. not (spent t)) start now mid k → k < length start → x ≡ get_or now k no_term
-    → Sieved spent (λ t. not (spent t)) start (exchanged now mid k) (mid + cond (not (eqb (x.turn % 8) 0)) 1 0) (k + 1)
-sieve-spent mid k x start now s l r =
-    let e : spent (get_or start k no_term) ≡ eqb (x.turn % 8) 0 = ap spent (sym (r ∙ sieve-read _ _ mid k start now s l)) ∙ none (x.turn % 8) in
-    sieve-round _ _ mid k start now s l (not (eqb (x.turn % 8) 0)) (e ∙ twice (eqb (x.turn % 8) 0)) (ap not e)
+pub nonzero-filter : (ts : List Term) → nonzero ts ≡ filter turns ts
+unfolding nonzero
+nonzero-filter [] = refl
+nonzero-filter (t ∷ ts) = go (t.turn % 8) (nonzero-filter ts)
   where
-    none : (n : ℕ) → is_none n ≡ eqb n 0
-    none zero = refl
-    none (suc n) = sym (ne_eqb (suc n) 0 (λ q. omega arith))
+    go : (n : ℕ) → nonzero ts ≡ filter turns ts → cond (is_none n) (nonzero ts) (t ∷ nonzero ts) ≡ cond (not (eqb n 0)) (t ∷ filter turns ts) (filter turns ts)
+    go zero e = e
+    go (suc n) e = rw (ne_eqb (suc n) 0 (λ q. omega arith)) (ap (λ (r : List Term). t ∷ r) e)
 
-    twice : (b : Bool) → b ≡ not (not b)
-    twice true = refl
-    twice false = refl
+-- a term is kept that has the column
+abbrev pub owns : ℕ → Term → Bool
+owns c t = bit t.parity c
 
-pub sieve-nonzero : {g : Term → Bool} (mid k : ℕ) (start now : List Term) → Sieved spent g start now mid k → Begins (nonzero (take k start)) mid k start now
-sieve-nonzero mid k start now s = rw (nonzero-left (take k start)) (sieve-front _ _ mid k start now s)
+side-with : (c : ℕ) (ts : List Term) → side true c ts ≡ filter (owns c) ts
+unfolding side
+side-with c [] = refl
+side-with c (t ∷ ts) = split (bit t.parity c) (λ h. rw h (ap (λ (r : List Term). t ∷ r) (side-with c ts))) (λ h. rw h (side-with c ts))
 
-pub sieve-column : (c mid k : ℕ) (x : Term) (has : Bool) (start now : List Term) → Sieved (lacks true c) (lacks false c) start now mid k → k < length start
-    → x ≡ get_or now k no_term → has ≡ bit x.parity c → Sieved (lacks true c) (lacks false c) start (exchanged now mid k) (mid + cond has 1 0) (k + 1)
-sieve-column c mid k x has start now s l r h =
-    let e : bit (get_or start k no_term).parity c ≡ has = ap (λ (t : Term). bit t.parity c) (sym (r ∙ sieve-read _ _ mid k start now s l)) ∙ sym h in
-    sieve-round _ _ mid k start now s l has (ap not e) e
+side-without : (c : ℕ) (ts : List Term) → side false c ts ≡ filter (λ t. not (owns c t)) ts
+unfolding side
+side-without c [] = refl
+side-without c (t ∷ ts) = split (bit t.parity c) (λ h. rw h (side-without c ts)) (λ h. rw h (ap (λ (r : List Term). t ∷ r) (side-without c ts)))
 
-pub sieve-sides : (c mid k : ℕ) (start now : List Term) → length start ≡ k → Sieved (lacks true c) (lacks false c) start now mid k → Sides c start now mid
-sieve-sides c mid k start now l s =
-    let a : take k start ≡ start = ap (λ (j : ℕ). take j start) (sym l) ∙ take-length start in
-    let d : drop k start ≡ [] = ap (λ (j : ℕ). drop j start) (sym l) ∙ drop-length start in
-    let f : left (lacks true c) (take k start) ≡ side true c start = ap (left (lacks true c)) a ∙ sym (side_left true c start) in
-    let g : left (lacks false c) (take k start) ≡ side false c start = ap (left (lacks false c)) a ∙ sym (side_left false c start) in
-    let w : now ≡ left (lacks true c) (take k start) ++ s.behind = s.whole ∙ rw d (simp append-nil) in
+pub sides_filter : (c n r : ℕ) (ts us : List Term) → length ts ≡ n → length us ≡ n → Gathers (owns c) n ts r us → Sides c ts us r
+sides_filter c n r ts us l m g =
+    let t : take n ts ≡ ts = ap (λ (j : ℕ). take j ts) (sym l) ∙ take-length ts in
+    let u : take n us ≡ us = ap (λ (j : ℕ). take j us) (sym m) ∙ take-length us in
     record {
-      many = rw f at s.many;
-      ones = ap (take mid) w ∙ take_at _ _ mid s.many ∙ f;
-      zeros = rw w (rw (drop_at (left (lacks true c) (take k start)) s.behind mid s.many) (rw g at s.shuffled));
+      many = rw (side-with c ts) (rw t at g.begins.many);
+      ones = rw (side-with c ts) (rw t at g.begins.front);
+      zeros = rw (side-without c ts) (rw (t, u) at g.others);
     }

@@ -1,5 +1,6 @@
 -- Terms side by side in a room of numbers, three to a term: a parity's low word, its high word, and a word that is its turn and 8 times a link.
-use Rattle.std.specs.Prelude.{◌≡◌, ◌≢◌, true, false, cond, List, [], ◌∷◌, ◌++◌, ℕ, zero, suc, ◌+◌, ◌-◌, ◌*◌, ◌/◌, ◌%◌, ◌^◌, ◌≤◌, ◌<◌, set, get_or, take, drop, length, eqb}
+use Rattle.std.specs.Prelude.{◌≡◌, ◌≢◌, Bool, true, false, not, cond, Option, Some, None, List, [], ◌∷◌, ◌++◌, ℕ, zero, suc, ◌+◌, ◌-◌, ◌*◌, ◌/◌, ◌%◌, ◌^◌, ◌≤◌, ◌<◌, set, get_or, take, drop, length, eqb}
+use Rattle.std.specs.List.{filter}
 use Rattle.rules.specs.Limits.{term_width}
 use Rattle.rules.specs.Bit.{xor}
 use Rattle.rules.specs.Fold.{Term}
@@ -67,6 +68,11 @@ unfoldable pub last_of : (ℕ → ℕ) → ℕ → ℕ → ℕ
 last_of f h zero = zero
 last_of f h (suc m) = cond (eqb (f m) h) (suc m) (last_of f h m)
 
+-- a place that may be missing as a link has it: 1 + the place, or 0
+abbrev pub link_of : Option ℕ → ℕ
+link_of (Some i) = suc i
+link_of None = zero
+
 -- the n parities are apart; each place's link is the last one before it with its hash, each hash's head the last of all. A head that no parity has
 -- may be any number
 pub record Linked (f parity link head : ℕ → ℕ) (n : ℕ) : Type 0 where
@@ -92,6 +98,15 @@ pub record Adds (new : List Term) (r : ℕ) (room room' heads' : List ℕ) : Typ
   pub begins : Begins new r r (terms_of room) (terms_of room')
   pub rest : drop (term_width * r) room' ≡ drop (term_width * r) room
   pub indexed : Indexed heads' room' r
+
+-- what a test of the code says is what `keeps` says
+abbrev pub Tells : (Entry → Bool → Type 0) → (Term → Bool) → Type 0
+Tells says keeps = (e : Entry) (r : Bool) → says e r → r ≡ keeps (term_of e)
+
+-- of the first `count` terms the r that `keeps` takes come first, in order, then the others, in some order
+pub record Gathers (keeps : Term → Bool) (count : ℕ) (before : List Term) (r : ℕ) (after : List Term) : Type 0 where
+  pub begins : Begins (filter keeps (take count before)) r count before after
+  pub others : Shuffled (drop r (take count after)) (filter (λ t. not (keeps t)) (take count before))
 
 -- terms split by a column: the r terms with it first, in order, then those without, in some order
 pub record Sides (column : ℕ) (before after : List Term) (r : ℕ) : Type 0 where

@@ -2,11 +2,12 @@
 use mathlib.Core.Path.{◌≡◌, refl, sym, ap, ◌∙◌}
 use mathlib.Core.Bool.{Bool, true, false, ◌||◌, not, true≢false}
 use mathlib.Core.List.{List, [], ◌∷◌, ◌++◌, append_assoc, append-nil}
-use Prim.Native.Nat.{ℕ, zero, suc, ◌+◌, ◌-◌, ◌*◌, ◌/◌, ◌%◌, ◌^◌, ◌≤◌, ◌<◌}
+use Prim.Native.Nat.{ℕ, zero, suc, ◌+◌, ◌-◌, ◌*◌, ◌/◌, ◌%◌, ◌^◌, ◌≤◌, ◌<◌, max}
 use native.Mathlib.Omega.{arith}
 use borrow.Author.Tests.{ltb-true, ltb-false, lt-ltb, le-ltb, le-leb, leb-true, eqb-false, ne_eqb, not-true}
 use lib.Dec.{eqb, leb, ltb}
-use lib.ListN.{length, length-append}
+use lib.ListN.{length, get_or, take, length-append}
+use lib.Seq.{take-suc}
 use Rattle.rules.proofs.Bits.{split, and_left, and_right}
 use Rattle.text.specs.Bytes.{nought, is_digit, first}
 use Rattle.text.specs.Printing.{digit, digits_in, decimal}
@@ -67,6 +68,22 @@ decimal-long (suc k) n h =
     let others = decimal-long k (n / 10) (omega arith) in
     rw (decimal-more n big) (simp length-append (omega arith)))
 
+tens : (k : ℕ) → 1 ≤ 10 ^ k
+tens zero = omega arith
+tens (suc k) = omega (arith, tens k)
+
+decimal_at_least : (k n : ℕ) → 10 ^ k ≤ n → suc k ≤ length (decimal n)
+decimal_at_least zero n h = decimal-some n
+decimal_at_least (suc k) n h =
+    let big : 10 ≤ n = omega (arith, tens k) in
+    omega (arith, decimal_at_least k (n / 10) (omega arith), shorter n big)
+
+-- the power of ten below a number tells how many digits it has; 0 has one
+pub decimal_size : (k n : ℕ) → 10 ^ k ≤ max n 1 → max n 1 < 10 * 10 ^ k → k + 1 ≡ length (decimal n)
+decimal_size zero zero low high = omega (arith, ap length (decimal-one 0 (omega arith)))
+decimal_size (suc k) zero low high = absurd (omega (arith, tens k))
+decimal_size k (suc n) low high = omega (arith, decimal_at_least k (suc n) (omega arith), decimal-long k (suc n) (omega arith))
+
 -- ---- they are numerals
 
 unfoldable pub Digital : List ℕ → Type 0
@@ -91,6 +108,11 @@ pub worth-append : (v : ℕ) (ds es : List ℕ) → worth v (ds ++ es) ≡ worth
 unfolding worth
 worth-append v [] es = refl
 worth-append v (d ∷ ds) es = worth-append (10 * v + (d - nought)) ds es
+
+-- one digit more of a list of them
+pub worth_more : (ds : List ℕ) (i : ℕ) → i < length ds → worth 0 (take (suc i) ds) ≡ 10 * worth 0 (take i ds) + (get_or ds i 0 - nought)
+unfolding worth
+worth_more ds i h = ap (worth 0) (take-suc ds i 0 h) ∙ worth-append 0 (take i ds) (get_or ds i 0 ∷ [])
 
 pub worth-decimal : (n : ℕ) → worth 0 (decimal n) ≡ n
 unfolding worth
@@ -121,6 +143,12 @@ proper-decimal (suc n) =
 
 -- ---- and each numeral is one of them
 
+digital_at : (ds : List ℕ) (i : ℕ) → Digital ds → i < length ds → is_digit (get_or ds i 0) ≡ true
+unfolding Digital
+digital_at [] i h g = absurd (omega arith)
+digital_at (d ∷ ds) zero h g = h.0
+digital_at (d ∷ ds) (suc i) h g = digital_at ds i h.1 (omega arith)
+
 digit-worth : (b : ℕ) → is_digit b ≡ true → (nought ≤ b) × (b ≤ 57)
 digit-worth b h = (leb-true nought b (and_left (leb nought b) (leb b 57) h), leb-true b 57 (and_right (leb nought b) (leb b 57) h))
 
@@ -148,3 +176,15 @@ decimal-proper (d ∷ e ∷ ds) h p =
     let same : digit (10 * 0 + (d - nought)) ≡ d = omega arith in
     let some : 1 ≤ 10 * 0 + (d - nought) = omega (arith, eqb-false d nought lead) in
     decimal-worth (10 * 0 + (d - nought)) (e ∷ ds) some h.1 ∙ rw (decimal-one (10 * 0 + (d - nought)) (omega arith), same)
+
+-- the last digit of those left is the one at their end, and the others are left
+pub record LastDigit (ds : List ℕ) (m left : ℕ) : Type 0 where
+  pub others : left / 10 ≡ worth 0 (take m ds)
+  pub last : digit (left % 10) ≡ get_or ds m 0
+
+pub last_digit : (ds : List ℕ) (m left : ℕ) → Digital ds → m < length ds → left ≡ worth 0 (take (suc m) ds) → LastDigit ds m left
+last_digit ds m left h lt is =
+    let d : ℕ = get_or ds m 0 in
+    let w = digit-worth d (digital_at ds m h lt) in
+    let more = worth_more ds m lt in
+    record { others = omega arith; last = omega arith }

@@ -1,5 +1,4 @@
 mod Cases
-mod Signs
 pub mod Decimals
 pub mod Grammar
 pub mod Lines

@@ -1,16 +1,18 @@
 -- What the crate's functions ask and say.
-use Rattle.std.specs.Prelude.{◌≡◌, Bool, true, false, cond, List, ℕ, suc, ◌+◌, ◌*◌, ◌≤◌, min, ℤ, pos, negsuc, length, drop}
+use Rattle.std.specs.Prelude.{◌≡◌, Option, None, Some, List, ℕ, ◌+◌, ◌*◌, ◌≤◌, length}
+use Rattle.std.specs.Borrow.{Bor}
 use Rattle.text.specs.Bytes.{pasted}
-use Rattle.text.specs.Reading.{Found, none, found, digits, worth, largest}
+use Rattle.text.specs.Reading.{Found, none, found}
 
--- what was read, and what is left behind the place that was reached, if it is there
-abbrev pub reached : {A : Type 0} → List ℕ → Bool → A → ℕ → Found A
-reached text ok value next = cond ok (found value (drop next text)) none
+-- what a reader answers, a value and the text behind it, is what is meant
+abbrev pub Reads : {A : Type 0} → Option (A × Bor (List ℕ)) → Found A → Type 0
+Reads None meant = meant ≡ none
+Reads (Some x) meant = meant ≡ found x.0 x.1.now
 
--- reading from a place of the text comes to what is meant, and the next place is still within the text
-pub record Reads {A : Type 0} (text : List ℕ) (meant : Found A) (ok : Bool) (value : A) (next : ℕ) : Type 0 where
-  pub exact : reached text ok value next ≡ meant
-  pub within : next ≤ length text
+-- likewise of a reader that answers only the text behind: with this value beside it
+abbrev pub Leaves : {A : Type 0} → A → Option (Bor (List ℕ)) → Found A → Type 0
+Leaves value None meant = meant ≡ none
+Leaves value (Some rest) meant = meant ≡ found value rest.now
 
 -- some bytes are written from a place of the room on, and the next place is behind them
 pub record Writes (new room : List ℕ) (at : ℕ) (room' : List ℕ) (next : ℕ) : Type 0 where
@@ -36,13 +38,3 @@ pub record Prints (most : ℕ) (new room : List ℕ) (at : ℕ) (room' : List �
 -- where saturated numbers stay
 abbrev pub top : ℕ
 top = 4294967295
-
--- the digits at the front of some bytes: what they are worth, as far as it is counted, and where they end
-pub record Scans (bs : List ℕ) (at worth' next : ℕ) : Type 0 where
-  pub counted : worth' ≡ min top (worth 0 (digits bs))
-  pub behind : next ≡ at + length (digits bs)
-
--- the number with a sign, where there is one
-pub record Signs (minus : Bool) (n : ℕ) (r : ℤ) : Type 0 where
-  pub above : minus ≡ false → n ≤ largest → r ≡ pos n
-  pub below : minus ≡ true → (k : ℕ) → k ≤ largest → n ≡ suc k → r ≡ negsuc k

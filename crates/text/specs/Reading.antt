@@ -2,7 +2,7 @@
 use Rattle.std.specs.Prelude.{Bool, not, ◌&&◌, ◌||◌, cond, List, [], ◌∷◌, ℕ, zero, suc, ◌+◌, ◌-◌, ◌*◌, eqb, leb, ltb, ℤ, pos, negsuc, length, drop}
 use Rattle.text.specs.Bytes.{lf, blank, minus, nought, is_digit, first}
 
--- a value, and what is left behind it
+-- a value, and what is left behind it. Stays: the definitions and laws match on both at once, and Some of a pair is no plainer
 pub data Found (A : Type 0) : Type 0 where
   none : Found A
   found : A → List ℕ → Found A

@@ -1,4 +1,3 @@
 mod Cases
 mod Cutting
 mod Tracing
-mod Imported

@@ -22,7 +22,8 @@ use Rattle.rules.proofs.Reading.{from-append, gates-length, length-numbers}
 use Rattle.rules.proofs.Accepting.{write_read}
 use Rattle.terms.proofs.Room.{room-length}
 use Rattle.cnot_min.specs.declared.Counts.{Counts}
-use Rattle.cnot_min.proofs.Rooms.{scannable, rewritable}
+use Rattle.cnot_min.specs.Minimizing.{Lent}
+use Rattle.cnot_min.proofs.Rooms.{lent, scannable}
 use Rattle.spelling.specs.Sizes.{list_gates}
 use Rattle.spelling.specs.Texts.{Head}
 use Rattle.saying.specs.Answer.{exact}
@@ -34,6 +35,7 @@ use Rattle.scan.proofs.Folding.{rest-none}
 use Rattle.scan.proofs.Pieces.{rows-wide}
 use Rattle.scan.proofs.Writing.{part}
 use Rattle.origin.specs.Origins.{kept, made, last_from, last_line, origins, origins_text}
+use Rattle.origin.specs.declared.Source.TheVariants.{Copied, Again}
 use Rattle.origin.specs.Clauses.{rows_text}
 use Rattle.origin.proofs.Origins.{text-append, made-rows, kept-rows, last_snoc}
 use Rattle.trace.specs.Clauses.{Right, Single, Cuts}
@@ -173,32 +175,32 @@ module _ (h : Head) (l : List ℤ) (c : Counts) (room' : List ℤ) (m : Made h l
   again-few e = omega (arith, new-count, ap (λ (r : Result). length r.gates) result, made-few h l e)
 
   module _ (s : Single plan (gates_of l)) where
-    pub kept-text : Right h l → c.replaced ≡ 0 → rows_text false 0 0 (length l / width) l ≡ origins_text (origins write (pieces_of plan (gates_of l)))
+    pub kept-text : Right h l → c.replaced ≡ 0 → rows_text Copied (length l / width) l ≡ origins_text (origins write (pieces_of plan (gates_of l)))
     kept-text r e =
-        ap (rows_text false 0 0 (length l / width)) (sym (natural h l r))
-        ∙ ap (λ (k : ℕ). rows_text false 0 0 k (numbers_of (gates_of l))) (sym (gates-length l))
-        ∙ kept-rows 0 0 (gates_of l) ∙ ap origins_text (sym (piece-kept write plan (gates_of l) s (sym replaced-is ∙ e)))
+        ap (rows_text Copied (length l / width)) (sym (natural h l r))
+        ∙ ap (λ (k : ℕ). rows_text Copied k (numbers_of (gates_of l))) (sym (gates-length l))
+        ∙ kept-rows (gates_of l) ∙ ap origins_text (sym (piece-kept write plan (gates_of l) s (sym replaced-is ∙ e)))
 
-    pub again-text : 1 ≤ c.replaced → rows_text true (line_of (gates_of l)) (last_line (gates_of l)) (length new / width) new ≡ origins_text (origins write (pieces_of plan (gates_of l)))
+    pub again-text : 1 ≤ c.replaced → rows_text (Again (line_of (gates_of l)) (last_line (gates_of l))) (length new / width) new ≡ origins_text (origins write (pieces_of plan (gates_of l)))
     again-text some =
         let a : ℕ = line_of (gates_of l) in
         let b : ℕ = last_line (gates_of l) in
         let gs : List Gate = (pass_by write plan (gates_of l)).gates in
-        ap (λ (k : ℕ). rows_text true a b k new) new-count ∙ ap (rows_text true a b (length gs)) new_is
+        ap (λ (k : ℕ). rows_text (Again a b) k new) new-count ∙ ap (rows_text (Again a b) (length gs)) new_is
         ∙ made-rows a b gs ∙ ap origins_text (sym (piece-made write plan (gates_of l) s (omega (arith, some, replaced-is))))
 
 -- ---- a block can be folded
 
 module _ (h : Head) (l : List ℤ) (r : Right h l) (p : Plan) (capped : p.qubits ≤ max_columns) where
-  lent : Scannable p l (take (width * gates_in l) l) (take h.wires (replicate max_wires 0))
-      (take (term_width * term_entries (gates_in l)) (replicate (term_width * term_entries (gates_in l)) 0)) (take (step_width * step_entries (gates_in l)) (replicate (step_width * step_entries (gates_in l)) 0))
+  fit : Lent l h.wires (length l) (term_width * term_entries (gates_in l)) (step_width * step_entries (gates_in l))
   unfolding exact
-  lent =
-      let t : List ℕ = replicate (term_width * term_entries (gates_in l)) 0 in
-      let u : List ℕ = replicate (step_width * step_entries (gates_in l)) 0 in
-      let e : verdict l h.wires h.bits (length l) (length t) (length u) ≡ accepted =
-      rw (length-replicate {A = ℕ} (term_width * term_entries (gates_in l)) 0, length-replicate {A = ℕ} (step_width * step_entries (gates_in l)) 0) r.exact in
-      scannable p h.wires l _ _ _ (rewritable l h.wires h.bits l t u e p capped)
+  fit = lent l h.wires h.bits (length l) _ _ r.exact
+
+  -- the scan's own rooms
+  scan : Scannable p l l (take h.wires (replicate max_wires 0)) (replicate (term_width * term_entries (gates_in l)) 0) (replicate (step_width * step_entries (gates_in l)) 0)
+  scan =
+      scannable p h.wires l l _ _
+      (record { capped = capped; checked = fit.checked; out-fits = refl; terms-fit = length-replicate {A = ℕ} (term_width * term_entries (gates_in l)) 0; steps-fit = length-replicate {A = ℕ} (step_width * step_entries (gates_in l)) 0 })
 
   pub wires-few : h.wires ≤ max_wires
   wires-few = (exact-fits h l r.exact).wires
@@ -206,9 +208,9 @@ module _ (h : Head) (l : List ℤ) (r : Right h l) (p : Plan) (capped : p.qubits
   pub foldable : (i : ℕ) (names rows room : List ℕ) → i ≤ gates_in l → length names ≡ max_columns → length rows ≡ 2 * max_columns → length room ≡ term_width * term_entries list_gates
       → Foldable p l i (take h.wires (replicate max_wires 0)) names rows room
   foldable i names rows room k a b d = record {
-    checked = lent.checked;
+    checked = scan.checked;
     capped = capped;
     inside = k;
-    clear = record { clear = lent.clear.clear; terms = omega (arith, d, room-length room, r.few.few) };
+    clear = record { clear = scan.clear.clear; terms = omega (arith, d, room-length room, r.few.few) };
     wide = record { named = omega (arith, a); rowed = rows-wide rows b };
   }

@@ -3,6 +3,7 @@
 #![tactic(auto)]
 
 ghost use Rattle.std.specs.Prelude.{◌≡◌, ◌+◌, ◌*◌, ◌/◌, ◌≤◌, ◌<◌, length};
+ghost use Rattle.std.proofs.Common.{rules};
 ghost use Rattle.rules.specs.Limits.{width};
 ghost use Rattle.rules.specs.Numbers.{gates_of};
 ghost use Rattle.rules.specs.Plan.{plan_of};
@@ -11,18 +12,19 @@ ghost use Rattle.rules.specs.Pass.{writer_of};
 ghost use Rattle.plan.specs.View.{view};
 ghost use Rattle.text.specs.Clauses.{Prints};
 ghost use Rattle.spelling.specs.Heads.{head_of};
-ghost use Rattle.saying.specs.Clauses.{Says};
+ghost use Rattle.import.specs.Answer as Import;
+ghost use Rattle.import.specs.Clauses.{right};
 ghost use Rattle.scan.specs.Scanning.{gates_in};
 ghost use Rattle.origin.specs.Origins.{origins, origins_text, last_line};
 ghost use Rattle.origin.specs.Clauses.{origin_size};
 ghost use Rattle.trace.specs.Answer as Paper;
 ghost use Rattle.trace.specs.Clauses.{trace_bytes, Right, Single, Cuts, Traces};
 
-use cnot_min::Answer;
-use origin::ORIGIN_BYTES;
+use fitting::CnotMin;
+use origin::{ORIGIN_BYTES, Source};
 use plan::Plan;
 use rules::{GATE_TERMS, GATE_WIDTH, MAX_COLUMNS, MAX_WIRES, TERM_WIDTH};
-use saying::{Said, Taken};
+use saying::{Program, Reason, Said};
 use scan::HEADS;
 use spelling::{Head, LIST_GATES};
 
@@ -61,11 +63,11 @@ fn piece_end(numbers: &[i32], at: usize, head: Head) -> usize
 fn last_line(numbers: &[i32]) -> u32
     ensures { result ≡ last_line (gates_of numbers.now) }
 {
-    let n = numbers.len() / GATE_WIDTH;
-    if n == 0 {
-        return 0;
+    let (rows, _) = numbers.as_chunks::<GATE_WIDTH>();
+    match rows.last() {
+        Some(row) => gate::nat(row[5]),
+        None => 0,
     }
-    gate::nat(numbers[GATE_WIDTH * (n - 1) + 5])
 }
 
 // The gates of one piece: as they were, or as they were written again.
@@ -75,66 +77,65 @@ fn write_piece(numbers: &[i32], head: Head, out: &mut [u8], at: usize) -> usize
     ensures { Prints (origin_size * (length numbers.now / width)) (origins_text (origins (writer_of (plan_of head.qubits head.terms)) (pieces_of (plan_of head.qubits head.terms) (gates_of numbers.now)))) out.old at out.new result }
 {
     let mut new = [0i32; GATE_WIDTH * LIST_GATES];
-    match fitting::minimize(numbers, head, &mut new) {
-        Answer::Refused(_) => at,
-        Answer::Done(c) => {
-            let again = 0 < c.replaced;
-            if !again {
-                return origin::write_origins(out, at, numbers, false, 0, 0);
+    match fitting::minimize::<CnotMin>(numbers, head, &mut new) {
+        Ok(c) => {
+            if 0 < c.replaced {
+                let source = Source::Again {
+                    first: gate::line(numbers),
+                    last: last_line(numbers),
+                };
+                origin::write_origins(out, at, &new[..GATE_WIDTH * c.gatesout], source)
+            } else {
+                origin::write_origins(out, at, numbers, Source::Copied)
             }
-            let first = gate::line(numbers);
-            origin::write_origins(
-                out,
-                at,
-                &new[..GATE_WIDTH * c.gatesout],
-                true,
-                first,
-                last_line(numbers),
-            )
+        }
+        Err(_) => at,
+    }
+}
+
+// The program.
+struct Pieces;
+
+impl Program for Pieces {
+    ghost by = { Import.answer_by };
+
+    ghost right = { right };
+
+    ghost next = { Paper.traced };
+
+    ghost room = { trace_bytes };
+
+    fn take(text: &[u8], numbers: &mut [i32]) -> Result<(Head, usize), Reason> {
+        import::take(text, numbers)
+    }
+
+    // Piece by piece.
+    fn say(numbers: &[i32], head: Head, out: &mut [u8]) -> Said {
+        let n = numbers.len() / GATE_WIDTH;
+        let mut next = 0;
+        let mut at = 0;
+        while at < n {
+            let end = piece_end(numbers, at, head);
+            next = write_piece(
+                &numbers[GATE_WIDTH * at..GATE_WIDTH * end],
+                head,
+                &mut *out,
+                next,
+            );
+            at = end;
+        }
+        Said {
+            length: next,
+            refused: false,
         }
     }
-}
 
-// Piece by piece.
-fn write_pieces(numbers: &[i32], head: Head, out: &mut [u8]) -> Said
-    requires right { Right (head_of head) numbers.now }
-    requires trace_bytes_in_bounds { trace_bytes ≤ length out.old }
-    ensures { Says (Paper.traced (head_of head) numbers.now) out.old result out.new }
-{
-    let n = numbers.len() / GATE_WIDTH;
-    let mut next = 0;
-    let mut at = 0;
-    while at < n {
-        let end = piece_end(numbers, at, head);
-        next = write_piece(
-            &numbers[GATE_WIDTH * at..GATE_WIDTH * end],
-            head,
-            &mut *out,
-            next,
-        );
-        at = end;
-    }
-    Said {
-        length: next,
-        refused: false,
-    }
-}
-
-// The answer goes into a room that always suffices.
-fn answer(text: &[u8], out: &mut [u8]) -> Said
-    requires { trace_bytes ≤ length out.old }
-    ensures { Says (Paper.answer text.now) out.old result out.new }
-{
-    let mut numbers = [0i32; GATE_WIDTH * LIST_GATES];
-    match import::take(text, &mut numbers, &mut *out) {
-        Taken::Refused(r) => r,
-        Taken::Good(head, n) => write_pieces(&numbers[..GATE_WIDTH * n], head, out),
-    }
+    ghost roomy = { Prim.search rules };
 }
 
 // Every text gets an answer.
 pub fn trace(text: &[u8], out: &mut [u8; TRACE_BYTES]) -> Said
     ensures { Traces text.now out.old result out.new }
 {
-    answer(text, out)
+    saying::answer::<Pieces>(text, out)
 }

@@ -5,26 +5,25 @@ ghost use Rattle.std.specs.Prelude.{◌≡◌, ◌+◌, ◌-◌, ◌%◌};
 ghost use Rattle.rules.specs.Meaning.{turn8};
 ghost use Rattle.rules.specs.Fold as Fold;
 
-// A signed turn of 32 bits, reduced to 0..7: the remainder by 8, corrected where it is negative.
+// A signed turn of 32 bits, reduced to 0..7.
 pub fn reduce(t: i32) -> u8
     ensures { result ≡ turn8 t }
 {
-    let m = t % 8;
-    if m < 0 { (m + 8) as u8 } else { m as u8 }
+    t.rem_euclid(8) as u8
 }
 
 // A sum of turns. It wraps at 256, a multiple of 8.
 pub fn add(a: u8, b: u8) -> u8
     ensures { result ≡ (a + b) % 256 }
 {
-    std::num::wrapping_add_u8(a, b)
+    a.wrapping_add(b)
 }
 
 // The negated turn: zero minus the turn, which wraps too.
 pub fn negate(a: u8) -> u8
     ensures { result ≡ (256 - a) % 256 }
 {
-    std::num::wrapping_sub_u8(0, a)
+    a.wrapping_neg()
 }
 
 // The turn as a wire's constant has it: behind an x a phase turns the other way.

@@ -1,16 +1,15 @@
 -- A node of one term is run down: the column that is chosen, the CNOTs from the highest column down, and where they lead.
 use mathlib.Core.Path.{◌≡◌, refl, sym, ◌∙◌, subst}
 use mathlib.Core.Logic.{◌≢◌}
-use mathlib.Core.Bool.{Bool, true, false, not, ◌&&◌, true≢false}
+use mathlib.Core.Bool.{Bool, true, false, true≢false}
 use mathlib.Core.List.{List, [], ◌∷◌, ◌++◌}
 use Prim.Native.Nat.{ℕ, ◌^◌, ◌<◌}
 use native.Mathlib.Nat.{lt_of_not-le}
 use native.Mathlib.Omega.{arith}
 use lib.IntN.{ℤ}
 use lib.ListN.{length, get_or}
-use lib.Dec.{eqb}
 use lib.Pow.{pow-lt}
-use borrow.Author.Tests.{eqb-true, eqb-false, ne_eqb}
+use Rattle.std.specs.Prelude.{Option, Some, None}
 use Rattle.rules.specs.Bit.{bit}
 use Rattle.rules.specs.Fold.{Term}
 use Rattle.rules.specs.Gate.{gate2, code_cnot}
@@ -20,16 +19,17 @@ use Rattle.rules.specs.Walk.{cn, on, Node, leaf, held, node}
 use Rattle.rules.specs.Synth.{emit}
 use Rattle.rules.specs.Left.{tally, Leads, Stairs}
 use Rattle.rules.specs.Shortcuts.{downs, run, any}
-use Rattle.rules.proofs.Bits.{split, xor_lt}
+use Rattle.rules.proofs.Bits.{xor_lt}
 use Rattle.rules.proofs.Walking.{rest-off, tally-rest}
 use Rattle.rules.proofs.Machine.{cross_stack}
 use Rattle.rules.proofs.Chain.{downs-next, leads-down, leads-taken}
+use Rattle.parity.specs.declared.Parity.{Parity}
 use Rattle.parity.specs.Columns.{Highest}
 use Rattle.parity.proofs.Laws.{bit_high}
 use Rattle.rows.specs.Rows.{rows_of}
 use Rattle.rows.proofs.Room.{row_count}
 use Rattle.emit.specs.Emitted.{Emits}
-use Rattle.walk.specs.Stack.{nothing, aim_to, Peeled, Chosen}
+use Rattle.walk.specs.Stack.{aim_to, Peeled, Chosen}
 use Rattle.walk.specs.Place.{Synthesized}
 use Rattle.walk.proofs.Aims.{emit-cn}
 use Rattle.walk.proofs.Making.{made_then, made-stop}
@@ -39,13 +39,8 @@ pub added : (p t : ℕ) (m : List ℕ) → add_to p t m ≡ held (cn p t ∷ [])
 unfolding add_to held
 added p t m = refl
 
--- the loop's test fails, though the budget is kept
-pub ends : (none kept : Bool) → (not none && kept) ≡ false → kept ≡ true → none ≡ true
-ends true kept e f = refl
-ends false kept e f = absurd (true≢false (sym f ∙ e))
-
 -- rooms of one length have as many rows
-pub rows_same : (xs ys : List ℕ) → length xs ≡ length ys → length (rows_of xs) ≡ length (rows_of ys)
+pub rows_same : (xs ys : List Parity) → length xs ≡ length ys → length (rows_of xs) ≡ length (rows_of ys)
 rows_same xs ys e = omega (arith, row_count xs, row_count ys)
 
 -- a column of a number of n digits is below n
@@ -76,31 +71,26 @@ made-cn names p t x y o b m o' b' m' w e f k r = record { emits = rw (emit-cn na
 
 -- ---- the column that is chosen
 
-module _ (n target live t mask : ℕ) (l : live < 2 ^ n) (s : live ≢ 0) (c : Chosen target live t mask) where
-  pub chosen-lt : (target ≢ nothing → target < n) → (t < n) × (mask < 2 ^ n)
-  chosen-lt a =
-      split (eqb target nothing)
-      (λ e. let k = c.taken (eqb-true _ _ e) in (high_lt n live t mask l s k, rest_lt n live t mask l s k))
-      (λ e. let k = c.given (eqb-false _ _ e) in (rw k.0 (a (eqb-false _ _ e)), rw k.1 l))
+module _ (n live t mask : ℕ) (l : live < 2 ^ n) (s : live ≢ 0) where
+  pub chosen-lt : (target : Option ℕ) → Chosen target live t mask → ((u : ℕ) → target ≡ Some u → u < n) → (t < n) × (mask < 2 ^ n)
+  chosen-lt None c a = let k = c.taken refl in (high_lt n live t mask l s k, rest_lt n live t mask l s k)
+  chosen-lt (Some u) c a = let k = c.given u refl in (rw k.0 (a u refl), rw k.1 l)
 
   -- it is not in the mask
-  pub chosen-apart : (target ≢ nothing → bit live target ≡ false) → bit mask t ≡ false
-  chosen-apart a =
-      split (eqb target nothing)
-      (λ e. let k = c.taken (eqb-true _ _ e) in rw k.rest (rest-off live t (top n live t mask l s k).set))
-      (λ e. let k = c.given (eqb-false _ _ e) in rw (k.0, k.1) (a (eqb-false _ _ e)))
+  pub chosen-apart : (target : Option ℕ) → Chosen target live t mask → ((u : ℕ) → target ≡ Some u → bit live u ≡ false) → bit mask t ≡ false
+  chosen-apart None c a = let k = c.taken refl in rw k.rest (rest-off live t (top n live t mask l s k).set)
+  chosen-apart (Some u) c a = let k = c.given u refl in rw (k.0, k.1) (a u refl)
 
   -- where the node's steps lead
-  pub chosen-leads : (us : List Term) (st : List Node) → length us ≡ 1 → ((i : ℕ) → bit live i ≡ true → any i us ≡ true) → Stairs n (node live (aim_to target) us ∷ st)
-      → Leads n (node live (aim_to target) us ∷ st) (run n t mask us) (cross_stack (run n t mask us) st)
-  chosen-leads [] st one has h = absurd (omega arith)
-  chosen-leads (e ∷ []) st one has h =
-      split (eqb target nothing)
-      (λ q. let k = c.taken (eqb-true _ _ q) in
+  pub chosen-leads : (target : Option ℕ) → Chosen target live t mask → (us : List Term) (st : List Node) → length us ≡ 1 → ((i : ℕ) → bit live i ≡ true → any i us ≡ true)
+      → Stairs n (node live (aim_to target) us ∷ st) → Leads n (node live (aim_to target) us ∷ st) (run n t mask us) (cross_stack (run n t mask us) st)
+  chosen-leads target c [] st one has h = absurd (omega arith)
+  chosen-leads None c (e ∷ []) st one has h =
+      let k = c.taken refl in
       let x = top n live t mask l s k in
-      rw (q, k.rest) (leads-taken n e live st has t (high_lt n live t mask l s k) x.set (λ j a _. x.above j a) (rw q at h)))
-      (λ q. let k = c.given (eqb-false _ _ q) in rw (q, k.0, k.1) (leads-down n e live st has target (rw q at h)))
-  chosen-leads (e ∷ f ∷ us) st one has h = absurd (omega arith)
+      rw k.rest (leads-taken n e live st has t (high_lt n live t mask l s k) x.set (λ j a _. x.above j a) h)
+  chosen-leads (Some u) c (e ∷ []) st one has h = let k = c.given u refl in rw (k.0, k.1) (leads-down n e live st has u h)
+  chosen-leads target c (e ∷ f ∷ us) st one has h = absurd (omega arith)
 
 -- ---- the CNOTs, and then the rotation
 
@@ -112,9 +102,9 @@ module _ (names : List ℕ) (t mask : ℕ) (us : List Term) (o : List ℤ) (b : 
       subst (Synthesized names (run (length names) t mask us) o b m o₁ b₁ m₁) (sym e)
       (made-stop names (leaf (on t) us) (subst (Synthesized names (downs (length names) t mask) o b m o₁ b₁ m₁) e h))
 
-  pub run-made : w ≡ true → t < 128 → (o₂ : List ℤ) (b₂ : Budget) (v : Bool) → Emits (emit names (leaf (aim_to t) us)) o₁ b₁ o₂ b₂ v
+  pub run-made : w ≡ true → (o₂ : List ℤ) (b₂ : Budget) (v : Bool) → Emits (emit names (leaf (on t) us)) o₁ b₁ o₂ b₂ v
       → Synthesized names (run (length names) t mask us) o b m o₂ b₂ m₁ v
   unfolding run held
-  run-made e l o₂ b₂ v k =
+  run-made e o₂ b₂ v k =
       made_then names (subst (Synthesized names (downs (length names) t mask) o b m o₁ b₁ m₁) e h)
-      (record { emits = rw (ne_eqb t nothing (λ q. omega arith)) at k; rows = λ _. refl })
+      (record { emits = k; rows = λ _. refl })

@@ -1,5 +1,4 @@
 -- Laws that belong to no one function.
-pub mod Slots
 pub mod Summing
 pub mod Stacks
 pub mod Aims

@@ -1,20 +1,17 @@
 -- The walk as a loop: what was made so far, and what the stack has left, are the whole walk.
 use mathlib.Core.Path.{◌≡◌, refl, sym, ap, ap₂, ◌∙◌, subst}
-use mathlib.Core.Bool.{Bool, true, false, ◌&&◌, cond, true≢false}
+use mathlib.Core.Bool.{Bool, true}
 use mathlib.Core.List.{List, [], ◌∷◌, ◌++◌}
 use Prim.Native.Nat.{ℕ, suc, ◌+◌, ◌-◌, ◌^◌, ◌≤◌, ◌<◌}
 use native.Mathlib.Omega.{arith}
 use lib.IntN.{ℤ}
 use lib.ListN.{length, get_or, set, take, length-set}
 use lib.Seq.{take-length, get_or-set_same}
-use lib.Dec.{ltb}
-use borrow.Author.Tests.{ltb-false}
 use Rattle.rules.specs.Fold.{Term}
 use Rattle.rules.specs.Budget.{Budget}
 use Rattle.rules.specs.Walk.{Step, free, Node, node}
 use Rattle.rules.specs.Left.{weight, left, Stairs}
 use Rattle.rules.specs.Order.{Stacked, none, more}
-use Rattle.rules.proofs.Bits.{split}
 use Rattle.rules.proofs.Depth.{stairs-first}
 use Rattle.rules.proofs.Visiting.{left-none, weight-stacked, left-stacked}
 use Rattle.parity.specs.declared.Parity.{Parity}
@@ -76,28 +73,17 @@ module _ (names : List ℕ) (whole : List Step) (p₀ p : Place) (w : Bool) (h :
           };
         }
 
--- the measure: turns left, and none once the budget is spent
-unfoldable pub ahead : ℕ → Place → Bool → ℕ
-ahead n p w = cond w (suc (weight n (stack p))) 0
-
-pub ahead-less : (n : ℕ) (p q : Place) (w v : Bool) → w ≡ true → weight n (stack q) < weight n (stack p) → ahead n q v < ahead n p w
-unfolding ahead
-ahead-less n p q w v t l = rw t (split v (λ e. rw e (omega arith)) (λ e. rw e (omega arith)))
-
 -- ---- the loop's end: no node waits, or the budget is spent
 
 no-nodes : (p : Place) → p.depth ≡ 0 → stack p ≡ []
 unfolding stack_of
 no-nodes p e = rw e
 
-pub walk_end : (names : List ℕ) (whole : List Step) (p₀ p : Place) (w : Bool) → Walked names whole p₀ p w → (ltb 0 p.depth && w) ≡ false
+pub walk_end : (names : List ℕ) (whole : List Step) (p₀ p : Place) (w : Bool) → Walked names whole p₀ p w → (w ≡ true → p.depth ≡ 0)
     → Synthesized names whole p₀.out p₀.budget p₀.rows p.out p.budget p.rows w
 walk_end names whole p₀ p w h e =
     partly-end names whole p₀.out p₀.budget p₀.rows _ p.out p.budget p.rows w h.part
-    (λ f. ap (left (length names)) (no-nodes p (empty f)) ∙ left-none (length names))
-  where
-    empty : w ≡ true → p.depth ≡ 0
-    empty f = split (ltb 0 p.depth) (λ g. absurd (true≢false (rw (g, f) at e))) (λ g. let k = ltb-false 0 p.depth g in omega arith)
+    (λ f. ap (left (length names)) (no-nodes p (e f)) ∙ left-none (length names))
 
 -- ---- its beginning: one node, which has all columns and all terms
 
@@ -120,7 +106,7 @@ module _ (names : List ℕ) (n : ℕ) (k : length names ≡ n) (ss old : List Sl
   first-standing m out b w many r =
       record {
         wires = w;
-        sound = sound-at (length names) ss 1 end 0 refl (first c) first_slot (omega arith) (record { target = λ q. absurd (q refl); owed = λ q. absurd (q refl); apart = λ q. absurd (q refl); differ = λ q. absurd (q refl) }) tt;
+        sound = sound-at (length names) ss 1 end 0 refl (first c) first_slot (omega arith) (record { target = λ t q. cc; owed = λ p t q. cc; apart = λ t q. cc; differ = λ p t q. cc }) tt;
         stairs = subst (Stairs (length names)) (sym first-stack) (subst (λ (j : ℕ). Stairs j (node (2 ^ n - 1) free ts ∷ [])) (sym k) (stairs-first n ts));
         fits = omega arith;
         wide = rw e (simp length-set wide);

@@ -11,7 +11,8 @@ use Rattle.rules.specs.Bit.{bit}
 use Rattle.rules.specs.Fold.{Term}
 use Rattle.rules.specs.Order as Order
 use Rattle.rules.specs.Order.{Stacked, none, more}
-use Rattle.rules.specs.Walk.{cn, Aim, on, Node, side, best, leaf, aim_with, is_none, cross_terms, cross_nodes, Visit, visit, node}
+use Rattle.rules.specs.Walk.{cn, on, Node, side, best, leaf, is_none, cross_terms, cross_nodes, Visit, visit, node}
+use Rattle.rules.specs.Walk as Walk
 use Rattle.rules.specs.Left.{Leads, Stairs}
 use Rattle.rules.proofs.Machine.{cross_stack}
 use Rattle.rules.proofs.Visiting.{leads-visit}
@@ -19,9 +20,10 @@ use Rattle.rules.proofs.Walking.{cross_all, tally-rest, best-ok}
 use Rattle.parity.specs.View.{val}
 use Rattle.terms.specs.Terms.{Begins}
 use Rattle.walk.specs.declared.Slot.{Slot}
-use Rattle.walk.specs.Stack.{no_slot, aim_to, aim_of, owing, node_of, stack_of, Aimed, Laid, takes, leaves, paid, Branched}
+use Rattle.walk.specs.declared.Aim.TheVariants.{Owes}
+use Rattle.walk.specs.Stack.{no_slot, aim_to, aim_of, view, target_of, node_of, stack_of, Aimed, Laid, takes, leaves, paid, Branched}
 use Rattle.walk.proofs.Stacks.{slice-rest, stack-length, stack_top, stack_at, sound-at, Top, sound-top, stack-slots, sound-slots, stack-terms, stack-cross}
-use Rattle.walk.proofs.Aims.{aim-owes, aim-settled, aim-paid, takes-cands, takes-start, takes-aim, takes-aimed, leaves-aimed, settled-to, visit-none, visit-pay, visit-leaf, visit-split}
+use Rattle.walk.proofs.Aims.{NoneOwed, aim-settled, target-owed, takes-aim, takes-aimed, leaves-aimed, settled-to, visit-none, visit-pay, visit-leaf, visit-split}
 use Rattle.walk.proofs.Splitting.{split-fits, split-front, split-zeros, split-ones}
 
 pub stacked-same : (st : List Node) → Stacked st st
@@ -35,12 +37,12 @@ pub not_none : (cs : ℕ) → cs ≢ 0 → is_none cs ≡ false
 not_none zero q = absurd (q refl)
 not_none (suc cs) q = refl
 
-node-is : {cs ds : ℕ} {a b : Aim} {ts us : List Term} → cs ≡ ds → a ≡ b → ts ≡ us → node cs a ts ≡ node ds b us
+node-is : {cs ds : ℕ} {a b : Walk.Aim} {ts us : List Term} → cs ≡ ds → a ≡ b → ts ≡ us → node cs a ts ≡ node ds b us
 node-is e f g = rw (e, f, g)
 
 -- a node at the place `at` split by its best column, over what waits below it: the side with the column stays in its place, the side without goes on top
 module _ (n : ℕ) (sl : List Slot) (ts : List Term) (depth end at : ℕ) (k : depth ≡ at + 1) (d : Slot) (aimed : Aimed n d) (start : d.start ≤ end) (rest : Laid n sl at d.start)
-    (fits : end ≤ length ts) (few : val d.cands < 2 ^ n) (o : owing d ≡ false) (z : val d.cands ≢ 0) (deep : at + 1 < length sl)
+    (fits : end ≤ length ts) (few : val d.cands < 2 ^ n) (o : NoneOwed d.aim) (z : val d.cands ≢ 0) (deep : at + 1 < length sl)
     (ss : List Slot) (us : List Term) (br : Branched d at end ts us sl ss) where
   abbrev under : List Node
   under = stack_of sl at ts d.start
@@ -73,15 +75,15 @@ module _ (n : ℕ) (sl : List Slot) (ts : List Term) (depth end at : ℕ) (k : d
   mid = set sl at x
 
   abbrev beside : List Node
-  beside = node (val br.rest) (aim_with (aim_to d.target) c) (side true c part) ∷ under
+  beside = node (val br.rest) (Walk.aim_with (aim_to (target_of d.aim)) c) (side true c part) ∷ under
 
   abbrev pub halved : List Node
-  halved = node (val br.rest) (aim_to d.target) (side false c part) ∷ beside
+  halved = node (val br.rest) (aim_to (target_of d.aim)) (side false c part) ∷ beside
 
   pub halves-visit : 0 < length part → visit n (node_of d ts end) under ≡ record { steps = []; stack = halved }
   halves-visit some =
-      ap (λ (v : Aim). visit n (node (val d.cands) v part) under) (aim-settled d o)
-      ∙ visit-split n under (val d.cands) (aim_to d.target) part c (val br.rest) (settled-to d.target) some (not_none (val d.cands) z) c-is br.less
+      ap (λ (v : Walk.Aim). visit n (node (val d.cands) v part) under) (aim-settled d.aim o)
+      ∙ visit-split n under (val d.cands) (aim_to (target_of d.aim)) part c (val br.rest) (settled-to (target_of d.aim)) some (not_none (val d.cands) z) c-is br.less
 
   got-y : y ≡ get_or ss (at + 1) no_slot
   got-y = sym (ap (λ (l : List Slot). get_or l (at + 1) no_slot) br.slots ∙ get_or-set_same mid (at + 1) y no_slot (lt-length-set sl at x deep))
@@ -90,9 +92,6 @@ module _ (n : ℕ) (sl : List Slot) (ts : List Term) (depth end at : ℕ) (k : d
   got-x =
       sym (ap (λ (l : List Slot). get_or l at no_slot) br.slots ∙ get_or-set_other mid (at + 1) at y no_slot (λ v. omega arith)
       ∙ get_or-set_same sl at x no_slot (omega (arith, deep)))
-
-  x-start : x.start ≡ d.start
-  x-start = takes-start d br.rest c
 
   s-below : stack_of ss at us d.start ≡ under
   s-below =
@@ -104,14 +103,13 @@ module _ (n : ℕ) (sl : List Slot) (ts : List Term) (depth end at : ℕ) (k : d
   s-x =
       stack_at ss (at + 1) us (d.start + br.ones) at refl x got-x
       ∙ ap₂ (λ (u : Node) (v : List Node). u ∷ v)
-      (node-is (ap val (takes-cands d br.rest c)) (takes-aim d br.rest c br.best.small)
-      (ap (λ (j : ℕ). slice j (d.start + br.ones) us) x-start ∙ split-ones c d.start end ts us br.ones start fits br.split))
-      (ap (stack_of ss at us) x-start ∙ s-below)
+      (node-is refl (takes-aim d br.rest c) (split-ones c d.start end ts us br.ones start fits br.split))
+      s-below
 
-  s_y : stack_of ss (depth + 1) us end ≡ node (val br.rest) (aim_to d.target) (slice (d.start + br.ones) end us) ∷ beside
+  s_y : stack_of ss (depth + 1) us end ≡ node (val br.rest) (aim_to (target_of d.aim)) (slice (d.start + br.ones) end us) ∷ beside
   s_y =
       stack_at ss (depth + 1) us end (at + 1) (omega arith) y got-y
-      ∙ ap₂ (λ (u : Node) (v : List Node). u ∷ v) (ap (λ (v : Aim). node (val br.rest) v (slice (d.start + br.ones) end us)) (aim-settled d o)) s-x
+      ∙ ap₂ (λ (u : Node) (v : List Node). u ∷ v) (ap (λ (v : Walk.Aim). node (val br.rest) v (slice (d.start + br.ones) end us)) (aim-settled d.aim o)) s-x
 
   pub halves-stack : Stacked (stack_of ss (depth + 1) us end) halved
   halves-stack =
@@ -124,8 +122,7 @@ module _ (n : ℕ) (sl : List Slot) (ts : List Term) (depth end at : ℕ) (k : d
       subst (λ (l : List Slot). Laid n l at d.start) (sym br.slots)
       (sound-slots n mid (at + 1) y at d.start (omega arith) (sound-slots n sl at x at d.start (omega arith) rest)) in
       let high : Laid n ss (at + 1) (d.start + br.ones) =
-      sound-at n ss (at + 1) (d.start + br.ones) at refl x got-x (omega (arith, x-start)) (takes-aimed d br.rest c br.less c-in n aimed c_lt)
-      (subst (Laid n ss at) (sym x-start) low) in
+      sound-at n ss (at + 1) (d.start + br.ones) at refl x got-x (omega arith) (takes-aimed d br.rest c br.less c-in n aimed c_lt) low in
       sound-at n ss (depth + 1) end (at + 1) (omega arith) y got-y (split-fits c d.start end ts us br.ones start fits br.split)
       (leaves-aimed d br.rest c br.less c-in n aimed br.ones) high
 
@@ -207,47 +204,51 @@ module _ (n : ℕ) (sl : List Slot) (ts : List Term) (depth end at : ℕ) (k : d
     some = omega (arith, length-slice d.start end ts fits, top.start, q)
 
     -- rule 3: no candidates, and the rotation on the target is due
-    pub leaf-leads : owing d ≡ false → val d.cands ≡ 0 → Leads n (stack_of sl depth ts end) (leaf (aim_to d.target) top_set) below
+    pub leaf-leads : NoneOwed d.aim → val d.cands ≡ 0 → Leads n (stack_of sl depth ts end) (leaf (aim_to (target_of d.aim)) top_set) below
     leaf-leads o z =
         by-visit _
-        (ap (λ (x : Aim). visit n (node (val d.cands) x top_set) below) (aim-settled d o)
-        ∙ visit-leaf n below (val d.cands) (aim_to d.target) top_set (settled-to d.target) some (ap is_none z))
+        (ap (λ (x : Walk.Aim). visit n (node (val d.cands) x top_set) below) (aim-settled d.aim o)
+        ∙ visit-leaf n below (val d.cands) (aim_to (target_of d.aim)) top_set (settled-to (target_of d.aim)) some (ap is_none z))
 
     -- rule 2: what is owed is paid, and the node returns owing nothing
-    module _ (o : owing d ≡ true) where
+    module _ (p t : ℕ) (o : d.aim ≡ Owes p t) where
       abbrev pub returned : List Node
-      returned = node (val d.cands) (on d.target) top_set ∷ cross_nodes d.owed d.target below
+      returned = node (val d.cands) (on t) top_set ∷ cross_nodes p t below
 
-      pub pay-leads : Leads n (stack_of sl depth ts end) (cn d.owed d.target ∷ []) returned
+      pub pay-leads : Leads n (stack_of sl depth ts end) (cn p t ∷ []) returned
       pay-leads =
           by-visit _
-          (ap (λ (x : Aim). visit n (node (val d.cands) x top_set) below) (aim-owes d o).0
-          ∙ visit-pay n below (val d.cands) d.owed d.target top_set some)
+          (ap (λ (x : Walk.Aim). visit n (node (val d.cands) x top_set) below) (ap view o)
+          ∙ visit-pay n below (val d.cands) p t top_set some)
 
-      module _ (ss : List Slot) (us : List Term) (f : ss ≡ set sl at (paid d)) (wide : n + 1 ≤ length sl)
-          (b : Begins (cross_terms d.owed d.target (take d.start ts)) d.start d.start ts us) where
-        got : paid d ≡ get_or ss at no_slot
-        got = sym (ap (λ (x : List Slot). get_or x at no_slot) f ∙ get_or-set_same sl at (paid d) no_slot (omega (arith, top-deep)))
+      module _ (ss : List Slot) (us : List Term) (f : ss ≡ set sl at (paid d t)) (wide : n + 1 ≤ length sl)
+          (b : Begins (cross_terms p t (take d.start ts)) d.start d.start ts us) where
+        got : paid d t ≡ get_or ss at no_slot
+        got = sym (ap (λ (x : List Slot). get_or x at no_slot) f ∙ get_or-set_same sl at (paid d t) no_slot (omega (arith, top-deep)))
 
         pub pay-stack : Stacked (stack_of ss depth us end) returned
         unfolding cross_all cross_stack
         pay-stack =
-            let s-below : stack_of ss at us d.start ≡ cross_nodes d.owed d.target below =
-            ap (λ (x : List Slot). stack_of x at us d.start) f ∙ stack-slots sl at (paid d) at us d.start (omega arith)
-            ∙ stack-cross n (cn d.owed d.target ∷ []) sl at ts us d.start rest-laid b.front in
+            let s-below : stack_of ss at us d.start ≡ cross_nodes p t below =
+            ap (λ (x : List Slot). stack_of x at us d.start) f ∙ stack-slots sl at (paid d t) at us d.start (omega arith)
+            ∙ stack-cross n (cn p t ∷ []) sl at ts us d.start rest-laid b.front in
             stacked-is
-            (stack_at ss depth us end at k (paid d) got
-            ∙ ap₂ (λ (x : Node) (y : List Node). x ∷ y)
-            (ap₂ (λ (x : Aim) (y : List Term). node (val d.cands) x y) (aim-paid d (aim-owes d o).1.0) (slice-rest d.start end ts us b.rest)) s-below)
+            (stack_at ss depth us end at k (paid d t) got
+            ∙ ap₂ (λ (x : Node) (y : List Node). x ∷ y) (ap (node (val d.cands) (on t)) (slice-rest d.start end ts us b.rest)) s-below)
 
         pub pay-laid : Laid n ss depth end
         pay-laid =
-            sound-at n ss depth end at k (paid d) got top.start
-            (record { target = top.aimed.target; owed = λ x. absurd (x refl); apart = top.aimed.apart; differ = λ x y. x (sym y) })
-            (subst (λ (x : List Slot). Laid n x at d.start) (sym f) (sound-slots n sl at (paid d) at d.start (omega arith) rest-laid))
+            sound-at n ss depth end at k (paid d t) got top.start
+            (record {
+              target = λ u e. top.aimed.target u (target-owed d.aim p t o ∙ e);
+              owed = λ x y e. cc;
+              apart = λ u e. top.aimed.apart u (target-owed d.aim p t o ∙ e);
+              differ = λ x y e. cc;
+            })
+            (subst (λ (x : List Slot). Laid n x at d.start) (sym f) (sound-slots n sl at (paid d t) at d.start (omega arith) rest-laid))
 
     -- rule 4: the side with the column stays in the node's place, the side without runs first
-    module _ (o : owing d ≡ false) (z : val d.cands ≢ 0) (wide : n + 1 ≤ length sl) (ss : List Slot) (us : List Term) (br : Branched d at end ts us sl ss) where
+    module _ (o : NoneOwed d.aim) (z : val d.cands ≢ 0) (wide : n + 1 ≤ length sl) (ss : List Slot) (us : List Term) (br : Branched d at end ts us sl ss) where
       pub deep : at + 1 < length sl
       deep = omega (arith, top-more z)
 
@@ -259,3 +260,31 @@ module _ (n : ℕ) (sl : List Slot) (ts : List Term) (depth end at : ℕ) (k : d
 
       pub branch-laid : Laid n ss (depth + 1) end
       branch-laid = halves-laid n sl ts depth end at k d top-aimed top_start rest-laid fits top-cands o z deep ss us br
+
+-- ---- the newest node in its rooms
+
+abbrev pub newest : List Slot → ℕ → Slot
+newest nodes depth = get_or nodes (depth - 1) no_slot
+
+-- where it and its set stand, over n columns and as many terms
+pub record Lies (n : ℕ) (nodes : List Slot) (many depth end : ℕ) : Type 0 where
+  pub under : depth ≡ (depth - 1) + 1
+  pub inside : depth - 1 < length nodes
+  pub few : depth ≤ n + 1
+  pub starts : (newest nodes depth).start ≤ end
+  pub ends : end ≤ many
+  pub aimed : Aimed n (newest nodes depth)
+
+pub lies : (n : ℕ) (nodes : List Slot) (ts : List Term) (depth end : ℕ) → Laid n nodes depth end → Stairs n (stack_of nodes depth ts end) → end ≤ length ts → n + 1 ≤ length nodes → 0 < depth
+    → Lies n nodes (length ts) depth end
+lies n nodes ts depth end laid stairs fits wide w =
+    let under : depth ≡ (depth - 1) + 1 = omega arith in
+    let deep = top-deep n nodes ts depth end (depth - 1) under (newest nodes depth) refl laid stairs in
+    record {
+      under = under;
+      inside = omega (arith, deep);
+      few = omega (arith, deep);
+      starts = top_start n nodes ts depth end (depth - 1) under (newest nodes depth) refl laid stairs;
+      ends = fits;
+      aimed = top-aimed n nodes ts depth end (depth - 1) under (newest nodes depth) refl laid stairs;
+    }

@@ -1,4 +1,4 @@
--- The stack of the phase walk in its lent room, and what a turn of the walk promises.
+-- The stack of the phase walk, and what a turn of the walk promises.
 pub mod Stack
 pub mod Later
 pub mod Place

@@ -1,5 +1,5 @@
 -- Where the walk stands, and what one turn of it promises.
-use Rattle.std.specs.Prelude.{◌≡◌, Bool, true, List, [], ◌∷◌, ℕ, ◌+◌, ◌-◌, ◌*◌, ◌^◌, ◌≤◌, ◌<◌, ℤ, length, get_or, set, take}
+use Rattle.std.specs.Prelude.{◌≡◌, Bool, true, List, [], ◌∷◌, ℕ, ◌+◌, ◌-◌, ◌^◌, ◌≤◌, ◌<◌, ℤ, Option, length, get_or, set, take}
 use Rattle.std.proofs.Math.Seq.{slice}
 use Rattle.rules.specs.Fold.{Term}
 use Rattle.rules.specs.Walk.{Step, cn, Node, cross_terms, held}
@@ -9,15 +9,13 @@ use Rattle.rules.specs.Synth as Synth
 use Rattle.rules.specs.Left.{Leads, Stairs}
 use Rattle.rules.specs.Shortcuts.{run, flip_terms}
 use Rattle.rules.specs.Order.{Stacked}
-use Rattle.budget.specs.declared.Pushed.{Pushed}
-use Rattle.budget.specs.View.{view}
+use Rattle.parity.specs.declared.Parity.{Parity}
 use Rattle.terms.specs.Terms.{terms_of, Begins}
 use Rattle.rows.specs.Rows.{rows_of}
 use Rattle.emit.specs.Emitted.{Ready, Emits}
 use Rattle.walk.specs.declared.Slot.{Slot}
 use Rattle.walk.specs.declared.State.{State}
-use Rattle.walk.specs.declared.Pending.{Pending}
-use Rattle.walk.specs.Stack.{node_width, no_slot, slots_of, stack_of, Laid, paid, Chosen}
+use Rattle.walk.specs.Stack.{no_slot, stack_of, Laid, paid, Chosen}
 use Rattle.walk.specs.Later.{current, Waits}
 
 -- a block's wires by local index: at most 128, each a number that a gate can hold
@@ -38,13 +36,9 @@ pub record Place : Type 0 where
 abbrev pub stack : Place → List Node
 stack p = stack_of p.slots p.depth p.terms p.end
 
-abbrev pub place_of : List ℕ → List ℕ → List ℕ → List ℤ → State → Place
-place_of nodes room held out s =
-    record { slots = slots_of nodes; terms = current s.pending (terms_of room); rows = rows_of held; out = out; depth = s.depth; end = s.end; budget = view s.budget }
-
--- where a turn leaves off
-abbrev pub state_of : ℕ → ℕ → Pushed → Pending → State
-state_of depth end w f = record { depth = depth; end = end; budget = w.budget; within = w.within; pending = f }
+abbrev pub place_of : List Slot → List ℕ → List Parity → List ℤ → State → Budget → Place
+place_of nodes room held out s b =
+    record { slots = nodes; terms = current s.pending (terms_of room); rows = rows_of held; out = out; depth = s.depth; end = s.end; budget = b }
 
 -- what holds before each turn
 pub record Standing (names : List ℕ) (p : Place) : Type 0 where
@@ -57,10 +51,9 @@ pub record Standing (names : List ℕ) (p : Place) : Type 0 where
   pub ready : Ready p.out p.budget
 
 -- the newest node's set is brought up to date, at the same place
-pub record Readied (nodes room room' : List ℕ) (s s' : State) : Type 0 where
-  pub same : (m : List ℕ) (out : List ℤ) → place_of nodes room' m out s' ≡ place_of nodes room m out s
-  pub within : s'.within ≡ s.within
-  pub upto : s'.pending.upto ≤ (get_or (slots_of nodes) (s'.depth - 1) no_slot).start
+pub record Readied (nodes : List Slot) (room room' : List ℕ) (s s' : State) : Type 0 where
+  pub same : (m : List Parity) (out : List ℤ) (b : Budget) → place_of nodes room' m out s' b ≡ place_of nodes room m out s b
+  pub upto : s'.pending.upto ≤ (get_or nodes (s'.depth - 1) no_slot).start
   pub waits : Waits s'.pending (length (terms_of room'))
 
 -- all the steps are emitted and the rows follow, or the budget is spent
@@ -78,16 +71,16 @@ pub record Stepped (names : List ℕ) (p q : Place) (within : Bool) : Type 0 whe
   pub sound : Laid (length names) q.slots q.depth q.end
   pub fits : q.end ≤ length q.terms
 
--- the node d at the place `at` pays what it owes: the CNOT is emitted, its row added, the terms before its set take note, and it owes nothing
-pub record Paid (names : List ℕ) (d : Slot) (at : ℕ) (ts ts' : List Term) (ss ss' : List Slot) (m m' : List ℕ) (out : List ℤ) (b : Budget) (out' : List ℤ) (b' : Budget) (within : Bool) : Type 0 where
-  pub emits : Emits (Synth.emit names (cn d.owed d.target ∷ [])) out b out' b' within
-  pub rows : m' ≡ add_to d.owed d.target m
-  pub terms : Begins (cross_terms d.owed d.target (take d.start ts)) d.start d.start ts ts'
-  pub slots : ss' ≡ set ss at (paid d)
+-- the node d at the place `at` pays the control p that it owes to t: the CNOT is emitted, its row added, the terms before its set take note, and it owes nothing
+pub record Paid (names : List ℕ) (p t : ℕ) (d : Slot) (at : ℕ) (ts ts' : List Term) (ss ss' : List Slot) (m m' : List ℕ) (out : List ℤ) (b : Budget) (out' : List ℤ) (b' : Budget) (within : Bool) : Type 0 where
+  pub emits : Emits (Synth.emit names (cn p t ∷ [])) out b out' b' within
+  pub rows : m' ≡ add_to p t m
+  pub terms : Begins (cross_terms p t (take d.start ts)) d.start d.start ts ts'
+  pub slots : ss' ≡ set ss at (paid d t)
 
 -- the one term from `start` to `end` is run down to the column that is chosen: a CNOT from each of the mask, from the highest down, and the rotation.
 -- The terms before it take note.
-pub record Descends (names : List ℕ) (target live start end : ℕ) (ts ts' : List Term) (m m' : List ℕ) (out : List ℤ) (b : Budget) (out' : List ℤ) (b' : Budget) (within : Bool) : Type 0 where
+pub record Descends (names : List ℕ) (target : Option ℕ) (live start end : ℕ) (ts ts' : List Term) (m m' : List ℕ) (out : List ℤ) (b : Budget) (out' : List ℤ) (b' : Budget) (within : Bool) : Type 0 where
   pub column : ℕ
   pub mask : ℕ
   pub chosen : Chosen target live column mask
@@ -95,9 +88,9 @@ pub record Descends (names : List ℕ) (target live start end : ℕ) (ts ts' : L
   pub terms : Begins (flip_terms mask column (take start ts)) start start ts ts'
 
 -- what a walk over n columns is lent: the wires' names, room for a node more than there are columns, a row for each wire, and the block's own place in the output
-pub record Lent (n : ℕ) (names nodes held : List ℕ) (out : List ℤ) (b : Budget) : Type 0 where
+pub record Lent (n : ℕ) (names : List ℕ) (nodes : List Slot) (held : List Parity) (out : List ℤ) (b : Budget) : Type 0 where
   pub wires : Wires names
   pub many : length names ≡ n
-  pub deep : node_width * (n + 1) ≤ length nodes
+  pub deep : n + 1 ≤ length nodes
   pub rows : length (rows_of held) ≡ n
   pub ready : Ready out b

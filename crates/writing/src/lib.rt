@@ -1,4 +1,5 @@
 // Gates written one behind another in a room of their own, to the end: nothing is counted against a ceiling, and no line is given yet.
+// Stays: beside `emit` with functions of its own, since the plain engine exists so that nothing can stop it; over one sink each would have an error that never comes.
 #![tactic(auto)]
 
 ghost use Rattle.std.specs.Prelude.{◌≡◌, [], ◌∷◌, ◌<◌, ◌^◌, length};
@@ -9,7 +10,7 @@ ghost use Rattle.writing.specs.Written.{Wrote, Fits};
 
 use gate::Gate;
 use join::Wire;
-use rules::{CODE_CNOT, CODE_T, CODE_X};
+use rules::{CODE_T, CODE_X};
 
 // One gate behind the k that stand there; how many there are then.
 fn write_gate(whole: &mut [i32], k: usize, g: Gate) -> usize
@@ -27,14 +28,7 @@ fn write_one(whole: &mut [i32], k: usize, code: u32, q: Wire) -> usize
     requires code_bound { (code < 2 ^ 31) × (q.0 < 2 ^ 31) }
     ensures { Wrote (gate1 code q.0 ∷ []) whole.old k whole.new result }
 {
-    let g = Gate {
-        code,
-        first: q.0,
-        second: 0,
-        third: 0,
-        turn: 0,
-    };
-    write_gate(whole, k, g)
+    write_gate(whole, k, emit::one_wire(code, q))
 }
 
 pub fn write_x(whole: &mut [i32], k: usize, q: Wire) -> usize
@@ -50,14 +44,7 @@ pub fn write_cnot(whole: &mut [i32], k: usize, control: Wire, target: Wire) -> u
     requires control_bound { (control.0 < 2 ^ 31) × (target.0 < 2 ^ 31) }
     ensures { Wrote (gate2 code_cnot control.0 target.0 ∷ []) whole.old k whole.new result }
 {
-    let g = Gate {
-        code: CODE_CNOT,
-        first: control.0,
-        second: target.0,
-        third: 0,
-        turn: 0,
-    };
-    write_gate(whole, k, g)
+    write_gate(whole, k, emit::cnot(control, target))
 }
 
 // The rotation by a turn from 0 to 7: nothing; t; s; s then t; z; z then t; sdg; tdg. Its first gate is by the table that the first engine has.

@@ -1,32 +1,8 @@
 -- `absorb::absorb_cz` meets its contract.
-use native.Mathlib.Omega.{arith}
 use Rattle.absorb.proofs.Absorbing.{cz-absorbs}
-use borrow.Author.Rules.{rules}
 use Rattle.absorb.proofs.absorb_cz.Goals as goal
-
-pub enter_two-e-requires : goal.enter_two-e-requires
-enter_two-e-requires c = search rules
-
-pub fold_cz-requires : goal.fold_cz-requires
-fold_cz-requires c = let e = c.enter_two-e.ensures in
-    record { c_lt_max_columns = (omega (arith, e.control, e.joined.joins.few), (omega (arith, e.target, e.joined.joins.few), e.joined.wide)); terms_in_bounds = rw e.terms c.requires.terms_in_bounds; terms_bound = (rw e.terms c.requires.terms_bound.0, rw e.terms c.requires.terms_bound.1) }
-
-pub shape_of-table : goal.shape_of-table
-shape_of-table c = search rules
-
-pub shape_of-names : goal.shape_of-names
-shape_of-names c = search rules
-
-pub shape_of-rows : goal.shape_of-rows
-shape_of-rows c = search rules
-
-pub shape_of-room : goal.shape_of-room
-shape_of-room c = search rules
-
-pub shape_of-heads : goal.shape_of-heads
-shape_of-heads c = search rules
 
 pub returns : goal.returns
 returns c =
-    let e = c.enter_two-e.ensures in
+    let e = c.enter_two.ensures in
     cz-absorbs _ _ _ _ _ _ _ _ _ _ _ _ e.terms e.more e.behind _ _ _ _ e.joined e.control e.target e.control-name e.target_name c.fold_cz.ensures

@@ -1,12 +1,11 @@
 -- `alike::fault_at` meets its contract.
-use mathlib.Core.Path.{◌≡◌, ap, ◌∙◌}
+use mathlib.Core.Path.{ap, ◌∙◌}
 use mathlib.Core.Bool.{true, false}
 use Prim.Native.Nat.{◌*◌}
 use lib.IntN.{pos}
 use lib.ListN.{get_or}
 use mir.Syntax.{w32}
 use mir.ValLaws.{to_z-of_z}
-use Rattle.rules.specs.Limits.{width}
 use Rattle.rules.specs.Numbers.{nat_of}
 use Rattle.gate.specs.Tests.{told}
 use Rattle.gate.proofs.Tests.{code_at}

@@ -1,18 +1,11 @@
-use borrow.Author.Rules.{rules}
-use mathlib.Core.Path.{◌≡◌, sym, ◌∙◌}
-use mathlib.Core.Bool.{false}
-use native.Mathlib.Omega.{arith}
-use lib.ListN.{length}
+-- `closing::linear_synth` meets its contract: nothing is needed, no map can be had, or the map that is needed is reduced.
+use Rattle.std.proofs.Common.{◌≡◌, false, length, sym, ◌∙◌}
 use Rattle.rules.specs.Close.{eq_rows, closing}
 use Rattle.rows.specs.Rows.{rows_of}
-use Rattle.rows.proofs.Room.{row_count}
 use Rattle.closing.specs.Emission.{reversed}
-use Rattle.closing.proofs.Sending.{given-as, closes-same, closes-stuck, closes-needed}
+use Rattle.closing.proofs.Sending.{given-as, closes-same, closes-stuck, closes-needed, needed-sendable}
 use Rattle.closing.proofs.linear_synth.Goals as goal
-use Rattle.closing.proofs.linear_synth.Goals.{After-equal, Else-equal, Else-not-needed}
-
-sized : (c : After-equal) → let s = c.args in length (rows_of s.held.now) ≡ length (rows_of s.wanted.now)
-sized c = let s = c.args in omega (arith, c.requires.rooms.matrices.held, row_count s.held.now, row_count s.wanted.now)
+use Rattle.closing.proofs.linear_synth.Goals.{Else-equal, Else-not-needed}
 
 -- the rows are not as wanted
 differ : (c : Else-equal) → let s = c.args in eq_rows (rows_of s.held.now) (rows_of s.wanted.now) ≡ false
@@ -23,35 +16,17 @@ reduced : (c : Else-not-needed) → let s = c.args in let rows = rows_of c.neede
     eq_rows (rows_of s.held.now) (rows_of s.wanted.now) ≡ false → (closing (rows_of s.held.now) (rows_of s.wanted.now) ≡ reversed rows) × (length rows ≡ length (rows_of s.wanted.now))
 reduced c d = closes-needed _ _ _ d (given-as _ _ _ _ c.needed.ensures (c.if-not-needed.false))
 
-pub equal-requires : goal.equal-requires
-equal-requires c = search rules
-
 pub returns-then-equal : goal.returns-then-equal
 returns-then-equal c = closes-same _ _ _ _ _ (sym c.equal.ensures ∙ c.if-equal.true) c.requires.ready
-
-pub needed-requires : goal.needed-requires
-needed-requires c = c.requires.rooms.matrices
 
 pub returns-then-not-needed : goal.returns-then-not-needed
 returns-then-not-needed c = closes-stuck _ _ _ _ _ _ (differ (goal.at.returns-then-not-needed c).Else-equal) (given-as _ _ _ _ c.needed.ensures (c.if-not-needed.true))
 
 pub send-requires : goal.send-requires
 send-requires c =
-    let p = c.requires.rooms in
-    let n = reduced (goal.at.send-requires c).Else-not-needed (differ (goal.at.send-requires c).Else-equal) in
     record {
       ready = c.requires.ready;
-      sendable = record {
-        few = rw n.1 p.matrices.few;
-        named = p.named ∙ sym n.1;
-        wired = p.wired;
-        steps = rw n.1 p.steps;
-        from = _;
-        to = _;
-        square = sized (goal.at.send-requires c).After-equal;
-        sized = sym n.1;
-        closes = n.0;
-      };
+      sendable = needed-sendable _ _ _ _ _ _ _ c.requires.rooms (differ (goal.at.send-requires c).Else-equal) (given-as _ _ _ _ c.needed.ensures (c.if-not-needed.false));
     }
 
 pub returns : goal.returns

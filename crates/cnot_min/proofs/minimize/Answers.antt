@@ -1,5 +1,5 @@
 -- `cnot_min::minimize` meets its contract: the needed parts are lent, and the rest is as it was.
-use mathlib.Core.Path.{◌≡◌, sym, subst}
+use mathlib.Core.Path.{sym, subst}
 use Prim.Native.Nat.{◌≤◌}
 use Rattle.rules.specs.Limits.{max_columns}
 use Rattle.rules.specs.Plan as Rules

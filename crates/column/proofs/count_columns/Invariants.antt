@@ -1,8 +1,8 @@
--- `column::count_columns` meets its contract. The loop's invariant: the planes have the counts of the first i terms. The measure is the terms left.
+-- The planes have the counts of the first i terms.
 use mathlib.Core.Path.{◌≡◌}
 use mathlib.Core.Bool.{false}
-use Prim.Native.Nat.{ℕ, ◌+◌, ◌-◌, ◌≤◌}
-use lib.ListN.{length, take}
+use Prim.Native.Nat.{ℕ}
+use lib.ListN.{take}
 use Rattle.terms.specs.Terms.{terms_of}
 use Rattle.rows.specs.Rows.{rows_of}
 use Rattle.column.specs.Planes.{tally}
@@ -10,7 +10,4 @@ use Rattle.column.proofs.Scanning.{with}
 use Rattle.column.proofs.count_columns.Given as goal
 
 abbrev pub invariant-loop-i : goal.invariant-loop-i
-invariant-loop-i l = (length l.planes ≡ length l.initial.planes) × (l.i ≤ l.count + 1) × ((c : ℕ) → tally false c (rows_of l.planes) ≡ with c (take l.i (terms_of l.set)))
-
-abbrev pub decreases-loop-i : goal.decreases-loop-i
-decreases-loop-i l = l.count - l.i
+invariant-loop-i l = (c : ℕ) → tally false c (rows_of l.planes) ≡ with c (take l.i (terms_of l.set))

@@ -1,16 +1,9 @@
--- `column::digits` meets its contract: the zeros in front are those of no digit.
 use mathlib.Core.Path.{◌≡◌, subst}
 use Prim.Native.Nat.{ℕ, ◌-◌, ◌^◌, ◌<◌}
 use native.Mathlib.Omega.{arith}
 use borrow.Author.Rules.{rules}
 use lib.Count.{count_leading_zeros, leading_le, leading_length}
 use Rattle.column.proofs.digits.Goals as goal
-
-pub overflow_sub-result : goal.overflow_sub-result
-overflow_sub-result c = omega (arith, leading_le 64 c.args.n)
-
-pub overflow_cast-result : goal.overflow_cast-result
-overflow_cast-result c = search rules
 
 room : (n : ℕ) → n < 2 ^ 64 → n < 2 ^ (64 - count_leading_zeros 64 n)
 room n h =

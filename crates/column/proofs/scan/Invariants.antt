@@ -1,6 +1,5 @@
--- `column::scan` meets its contract. The loop's invariant is `Scanned`: of the candidates below some column the one furthest from even is kept, and the
+-- is `Scanned`: of the candidates below some column the one furthest from even is kept, and the
 -- others are left.
--- The measure is the columns left, as a number.
 use Rattle.parity.specs.View.{val}
 use Rattle.terms.specs.Terms.{terms_of}
 use Rattle.column.specs.Distance.{pair_of}

@@ -1,5 +1,5 @@
--- `column::survey` meets its contract. The loop's invariant is `Marks`: what the four marks say of each column after i terms. The measure is the terms left.
-use Prim.Native.Nat.{ℕ, ◌-◌, ◌≤◌}
+-- is `Marks`: what the four marks say of each column after i terms.
+use Prim.Native.Nat.{ℕ}
 use lib.ListN.{take}
 use Rattle.parity.specs.View.{val}
 use Rattle.terms.specs.Terms.{terms_of}
@@ -7,7 +7,4 @@ use Rattle.column.proofs.Marking.{Marks}
 use Rattle.column.proofs.survey.Given as goal
 
 abbrev pub invariant-loop-i : goal.invariant-loop-i
-invariant-loop-i l = (l.i ≤ l.count) × ((j : ℕ) → Marks (val l.cands) j (take l.i (terms_of l.set)) (val l.some) (val l.two) (val l.every) (val l.most))
-
-abbrev pub decreases-loop-i : goal.decreases-loop-i
-decreases-loop-i l = l.count - l.i
+invariant-loop-i l = (j : ℕ) → Marks (val l.cands) j (take l.i (terms_of l.set)) (val l.some) (val l.two) (val l.every) (val l.most)

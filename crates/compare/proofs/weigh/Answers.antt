@@ -1,62 +1,31 @@
 -- `compare::weigh` meets its contract: by the code.
-use mathlib.Core.Path.{◌∙◌}
-use native.Mathlib.Omega.{arith}
+use Rattle.std.proofs.Common.{◌∙◌, inl, inr, sym, arith}
 use Rattle.parity.specs.View.{val}
 use Rattle.rows.specs.Rows.{rows_of}
+use Rattle.rows.proofs.Room.{row_get}
 use Rattle.rules.specs.Meaning.{op}
 use Rattle.gate.specs.Writing.{gate_of}
 use Rattle.acting.specs.Table.{turns}
-use Rattle.block.proofs.Codes.{two-wires}
 use Rattle.compare.specs.View.{table_at}
 use Rattle.compare.proofs.Acting.{turns-x, turns-cnot, turns-cz, turns-phase, weighed-none, weighed-one, weighed-by}
-use borrow.Author.Rules.{rules}
 use Rattle.compare.proofs.weigh.Goals as goal
 
-pub returns-then-code-eq-CODE_X : goal.returns-then-code-eq-CODE_X
-returns-then-code-eq-CODE_X c = weighed-none c.args.i c.args.back c.args.s c.args.odds.now (turns (op (gate_of c.args.g)) (table_at c.args.flips c.args.rows.now)) (turns-x c.args.g (rows_of c.args.rows.now) (val c.args.flips) (omega arith))
+pub returns-in-1 : goal.returns-in-1
+returns-in-1 c =
+    weighed-none c.args.i c.args.back c.args.s.now (turns (op (gate_of c.args.g)) (table_at c.args.flips c.args.rows.now))
+    (elim c.in-1.is [
+      | inl e ↦ turns-x c.args.g (rows_of c.args.rows.now) (val c.args.flips) e
+      | inr e ↦ turns-cnot c.args.g (rows_of c.args.rows.now) (val c.args.flips) e
+    ])
 
-pub returns-then-code-eq-CODE_CNOT : goal.returns-then-code-eq-CODE_CNOT
-returns-then-code-eq-CODE_CNOT c = weighed-none c.args.i c.args.back c.args.s c.args.odds.now (turns (op (gate_of c.args.g)) (table_at c.args.flips c.args.rows.now)) (turns-cnot c.args.g (rows_of c.args.rows.now) (val c.args.flips) (omega arith))
+pub returns-in-9 : goal.returns-in-9
+returns-in-9 c =
+    weighed-by c.args.i c.args.back c.args.s.now (turns (op (gate_of c.args.g)) (table_at c.args.flips c.args.rows.now)) _ _ _ _ c.has.result c.has-in-9.result _
+    (turns-cz c.args.g (rows_of c.args.rows.now) (val c.args.flips) c.in-9.is) (sym (row_get c.args.rows.now c.args.g.first)) (sym (row_get c.args.rows.now c.args.g.second))
+    c.has.ensures c.has-in-9.ensures c.weigh_cz.ensures
 
-pub overflow_cast-g : goal.overflow_cast-g
-overflow_cast-g c = search rules
-
-pub get-x-requires : goal.get-x-requires
-get-x-requires c = c.requires.ready.wired.first-in
-
-pub has-xs-requires : goal.has-xs-requires
-has-xs-requires c = omega (arith, c.requires.ready.few, c.requires.ready.wired.first-in)
-
-pub overflow_cast-g-then-code-eq-CODE_CZ : goal.overflow_cast-g-then-code-eq-CODE_CZ
-overflow_cast-g-then-code-eq-CODE_CZ c = search rules
-
-pub get-y-requires : goal.get-y-requires
-get-y-requires c = c.requires.ready.wired.second-in (two-wires c.args.g.code (omega arith) (omega arith))
-
-pub has-requires : goal.has-requires
-has-requires c = omega (arith, c.requires.ready.few, c.requires.ready.wired.second-in (two-wires c.args.g.code (omega arith) (omega arith)))
-
-pub weigh_cz-requires : goal.weigh_cz-requires
-weigh_cz-requires c = c.requires.lane
-
-pub shape_of-odds-then-code-eq-CODE_CZ : goal.shape_of-odds-then-code-eq-CODE_CZ
-shape_of-odds-then-code-eq-CODE_CZ c = search rules
-
-pub returns-then-code-eq-CODE_CZ : goal.returns-then-code-eq-CODE_CZ
-returns-then-code-eq-CODE_CZ c =
-    weighed-by c.args.i c.args.back c.args.s c.args.odds.now (turns (op (gate_of c.args.g)) (table_at c.args.flips c.args.rows.now)) _ _ (val c.get-x.result) (val c.get-y.result) c.has-xs.result c.has.result _ _
-    (turns-cz c.args.g (rows_of c.args.rows.now) (val c.args.flips) (omega arith)) c.get-x.ensures c.get-y.ensures c.has-xs.ensures c.has.ensures c.weigh_cz.ensures
-
-pub turn_of-requires : goal.turn_of-requires
-turn_of-requires c = search rules
-
-pub rotate-requires : goal.rotate-requires
-rotate-requires c = c.requires.lane
-
-pub shape_of-odds : goal.shape_of-odds
-shape_of-odds c = search rules
-
-pub returns : goal.returns
-returns c =
-    weighed-one c.args.i c.args.back c.args.s c.args.odds.now (turns (op (gate_of c.args.g)) (table_at c.args.flips c.args.rows.now)) c.turn_of.result (val c.get-x.result) c.has-xs.result _ _
-    (turns-phase c.args.g (rows_of c.args.rows.now) (val c.args.flips) (omega (arith, c.requires.ready.least, c.if-code-eq-CODE_X.false)) (omega (arith, c.requires.ready.most, c.if-code-eq-CODE_CNOT.false, c.if-code-eq-CODE_CZ.false)) ∙ rw (c.turn_of.ensures, c.get-x.ensures, c.has-xs.ensures)) c.rotate.ensures
+pub returns-in_default : goal.returns-in_default
+returns-in_default c =
+    weighed-one c.args.i c.args.back c.args.s.now (turns (op (gate_of c.args.g)) (table_at c.args.flips c.args.rows.now)) c.turn_of.result _ c.has-in_default.result _
+    (turns-phase c.args.g (rows_of c.args.rows.now) (val c.args.flips) (grind (arith, c.requires.ready.least)) (grind (arith, c.requires.ready.most))
+    ∙ rw (c.turn_of.ensures, ← row_get c.args.rows.now c.args.g.first, c.has-in_default.ensures)) c.rotate.ensures

@@ -1,83 +1,41 @@
 -- `origin::write_origins` meets its contract: the lines so far, and those left.
-use mathlib.Core.Path.{◌≡◌, refl, ◌∙◌}
-use Prim.Native.Nat.{ℕ, ◌+◌, ◌-◌, ◌*◌, ◌/◌, ◌<◌}
+use mathlib.Core.Path.{◌≡◌}
+use Prim.Native.Nat.{ℕ, ◌+◌, ◌*◌, ◌/◌, ◌<◌}
 use native.Mathlib.Omega.{arith}
-use mathlib.Core.List.{List}
 use native.Mathlib.Nat.{sub-zero}
+use mathlib.Core.List.{List, []}
 use lib.IntN.{ℤ}
-use lib.ListN.{length}
+use lib.ListN.{length, get_or}
 use Rattle.rules.specs.Limits.{width}
 use Rattle.text.proofs.Begun.{begun-none, begun_more, begun_all}
-use Rattle.qasm.proofs.Gates.{row_at, row-size}
+use Rattle.spelling.proofs.Chunks.{chunk_at}
+use Rattle.qasm.proofs.Gates.{row_at}
 use Rattle.origin.specs.Clauses.{row_text, origin_size}
 use Rattle.origin.proofs.Noting.{rows_more, rows_none}
-use borrow.Author.Rules.{rules}
 use Rattle.origin.proofs.write_origins.Goals as goal
 
--- the gate's part of the numbers
-part : (ns : List ℤ) (i : ℕ) → i < length ns / width → (width * (i + 1) - width * i ≡ width) × (length (row_at ns i) ≡ width)
-part ns i h = (omega arith, row-size ns i h)
-
-pub loop-i-init : goal.loop-i-init
-loop-i-init c =
-    let s = c.args in
-    (omega arith, refl, rw (sub-zero (length s.numbers.now / width)) (begun-none _ _ _))
-
-pub overflow_mul-i : goal.overflow_mul-i
-overflow_mul-i c = search rules
-
-pub overflow_add-i : goal.overflow_add-i
-overflow_add-i c = search rules
-
-pub overflow_mul-i-in-loop-i : goal.overflow_mul-i-in-loop-i
-overflow_mul-i-in-loop-i c = search rules
-
-pub offset_bounds-numbers-i : goal.offset_bounds-numbers-i
-offset_bounds-numbers-i c = search rules
-
-pub slice_bounds-write_origin-count : goal.slice_bounds-write_origin-count
-slice_bounds-write_origin-count c = search rules
-
-pub slice_bounds-write_origin-start : goal.slice_bounds-write_origin-start
-slice_bounds-write_origin-start c = search rules
-
-pub slice_bounds-write_origin-end : goal.slice_bounds-write_origin-end
-slice_bounds-write_origin-end c = search rules
+pub loop-row-init : goal.loop-row-init
+loop-row-init c = rw (sub-zero (length c.args.numbers.now / width)) (begun-none _ _ _)
 
 pub write_origin-next-requires : goal.write_origin-next-requires
 write_origin-next-requires c =
-    let p = c.loop-i in
-    let b = p.invariant.2.prints in
-    let m = part c.args.numbers.now p.i (omega arith) in
-    record { origin_size_in_bounds = omega (arith, c.requires, p.invariant.1, b.short, b.writes.behind); row_len = rw m.0 m.1 }
+    let b = c.loop-row.invariant.prints in omega (arith, c.requires, c.loop-row.auto.out, b.short, b.writes.behind, c.loop-row-test.true, c.as_chunks.ensures.front_len)
 
-pub overflow_add-i-in-loop-i : goal.overflow_add-i-in-loop-i
-overflow_add-i-in-loop-i c = omega arith
-
-pub loop-i-smaller : goal.loop-i-smaller
-loop-i-smaller c = omega arith
-
-pub loop-i-preserved : goal.loop-i-preserved
-loop-i-preserved c =
-    let p = c.loop-i in
-    let w = c.write_origin-next in
+pub loop-row-preserved : goal.loop-row-preserved
+loop-row-preserved c =
+    let p = c.loop-row in
     let ns : List ℤ = c.args.numbers.now in
     let n : ℕ = length ns / width in
-    let wrote = rw (part ns p.i (omega arith)).0 at w.ensures in
-    let next : origin_size * (p.i + 1) ≡ origin_size * p.i + origin_size = omega arith in
-    let a = c.args in
-    let b = rw (rows_more a.again a.first a.last n ns p.i (omega arith)) at p.invariant.2 in (
-      omega arith,
-      w.auto.out ∙ p.invariant.1,
-      rw next (begun_more (origin_size * p.i) origin_size (row_text a.again a.first a.last (row_at ns p.i)) _ _ _ c.args.at _ _ _ _ (omega (arith, c.requires)) b wrote),
-    )
-
-pub shape_of-out : goal.shape_of-out
-shape_of-out c = c.loop-i.invariant.1
+    let i : ℕ = p.row-index in
+    let lt : i < n = omega (arith, c.loop-row-test.true, c.as_chunks.ensures.front_len) in
+    let row : get_or c.as_chunks.result.0.now i [] ≡ row_at ns i = rw c.as_chunks.ensures.front (chunk_at width n ns i lt) in
+    let next : origin_size * (i + 1) ≡ origin_size * i + origin_size = omega arith in
+    let b = rw (rows_more c.args.source n ns i lt) at p.invariant in
+    rw next (begun_more (origin_size * i) origin_size (row_text c.args.source (row_at ns i)) _ _ _ c.args.at _ _ _ _ (omega (arith, c.requires)) b (rw row at c.write_origin-next.ensures))
 
 pub returns : goal.returns
 returns c =
-    let p = c.loop-i in
+    let p = c.loop-row in
     let ns : List ℤ = c.args.numbers.now in
-    let all = begun_all (origin_size * p.i) _ _ _ _ _ _ (rows_none c.args.again c.args.first c.args.last (length ns / width) ns p.i (omega arith)) p.invariant.2 in
-    record { writes = all.writes; short = omega (arith, all.short, p.invariant.0) }
+    let all = begun_all (origin_size * p.row-index) _ _ _ _ _ _ (rows_none c.args.source (length ns / width) ns p.row-index (omega (arith, c.loop-row-test.false, c.as_chunks.ensures.front_len))) p.invariant in
+    record { writes = all.writes; short = omega (arith, all.short, p.auto.row-index-end, c.as_chunks.ensures.front_len) }

@@ -1,5 +1,5 @@
 -- `plain::minimize` meets its contract: the needed parts are lent, and the rest is as it was.
-use mathlib.Core.Path.{◌≡◌, subst}
+use mathlib.Core.Path.{subst}
 use Prim.Native.Nat.{◌≤◌}
 use native.Mathlib.Omega.{arith}
 use Rattle.rules.specs.Limits.{max_columns}

@@ -1,15 +1,12 @@
--- `plain_close::clear_column` meets its contract. The loop's invariant: what is left to clear gives what the whole does. The measure is the rows left.
-use mathlib.Core.Path.{◌≡◌}
-use Prim.Native.Nat.{◌≤◌, ◌-◌, ◌+◌}
-use lib.ListN.{length}
+-- `plain_close::clear_column` meets its contract. The loop's invariant: what is left to clear gives what the whole does.
+use Rattle.std.proofs.Common.{◌≡◌, ◌≤◌, ◌-◌, ◌+◌, length}
 use Rattle.rules.specs.Close.{clear}
 use Rattle.rows.specs.Rows.{rows_of}
 use Rattle.closing.specs.Additions.{held}
 use Rattle.plain_close.proofs.clear_column.Given as goal
 
 abbrev pub invariant-loop-r : goal.invariant-loop-r
-invariant-loop-r l = (length l.m ≡ length l.initial.m) × (length l.steps ≡ length l.initial.steps) × (l.r ≤ length (rows_of l.initial.m)) × (l.noted ≤ l.k + l.r)
-    × (clear l.column (length (rows_of l.initial.m)) 0 (held l.initial.m l.initial.steps l.k) ≡ clear l.column (length (rows_of l.initial.m) - l.r) l.r (held l.m l.steps l.noted))
-
-abbrev pub decreases-loop-r : goal.decreases-loop-r
-decreases-loop-r l = length (rows_of l.initial.m) - l.r
+invariant-loop-r l = record {
+  few : l.noted ≤ l.k + l.r;
+  left : clear l.column (length (rows_of l.initial.m)) 0 (held l.initial.m l.initial.steps l.k) ≡ clear l.column (length (rows_of l.initial.m) - l.r) l.r (held l.m l.steps l.noted);
+}

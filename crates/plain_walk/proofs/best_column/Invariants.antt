@@ -1,5 +1,4 @@
--- `plain_walk::best_column` meets its contract. The loop's invariant is `Scanned`: of the candidates below some column the best is kept, and the others are left.
--- The measure is the columns left, as a number.
+-- Of the candidates below some column the best is kept, and the others are left. The measure is the columns left, as a number.
 use Rattle.parity.specs.View.{val}
 use Rattle.terms.specs.Terms.{terms_of}
 use Rattle.plain_walk.specs.Scored.{pair_of}

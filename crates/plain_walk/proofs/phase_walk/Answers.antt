@@ -1,9 +1,7 @@
--- `plain_walk::phase_walk` meets its contract: the terms other than 0 stand first, and the walk is over them alone.
 use mathlib.Core.Path.{sym, subst}
 use mathlib.Core.List.{List}
 use Prim.Native.Nat.{◌*◌, ◌≤◌}
 use native.Mathlib.Omega.{arith}
-use borrow.Author.Rules.{rules}
 use lib.ListN.{length}
 use lib.Seq.{length-take-le}
 use Rattle.rules.specs.Walk.{Step}
@@ -12,9 +10,6 @@ use Rattle.rows.specs.Rows.{rows_of}
 use Rattle.walk.proofs.Entering.{entering-few, entering-walk}
 use Rattle.plain_walk.specs.Place.{Walks, Lent}
 use Rattle.plain_walk.proofs.phase_walk.Goals as goal
-
-pub compact-entering-requires : goal.compact-entering-requires
-compact-entering-requires c = search rules
 
 pub overflow_mul-end : goal.overflow_mul-end
 overflow_mul-end c =
@@ -39,18 +34,6 @@ walk_terms-requires c =
     let k = c.compact-entering in
     subst (λ (ss : List Step). Lent c.args.n c.args.names.now c.args.nodes.now c.args.held.now ss c.args.whole.now c.args.k)
     (sym (entering-walk c.args.count k.result c.args.room.now k.new.room k.ensures c.args.n)) c.requires.lent
-
-pub shape_of-room : goal.shape_of-room
-shape_of-room c = search rules
-
-pub shape_of-nodes : goal.shape_of-nodes
-shape_of-nodes c = search rules
-
-pub shape_of-held : goal.shape_of-held
-shape_of-held c = search rules
-
-pub shape_of-whole : goal.shape_of-whole
-shape_of-whole c = search rules
 
 pub returns : goal.returns
 returns c =

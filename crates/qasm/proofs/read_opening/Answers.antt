@@ -1,34 +1,31 @@
 -- `qasm::read_opening` meets its contract.
-use Rattle.qasm.proofs.Fronts.{opening-lines, line-five}
-use borrow.Author.Rules.{rules}
+use mathlib.Core.Path.{refl}
+use Rattle.std.proofs.lemmas.Result.{err_from_is_err_and}
+use Rattle.qasm.specs.Import.{opening}
+use Rattle.qasm.specs.declared.Wrong.TheVariants.{Line}
+use Rattle.qasm.proofs.Fronts.{err_or, opened-as}
 use Rattle.qasm.proofs.read_opening.Goals as goal
 
-pub read_word-version-requires : goal.read_word-version-requires
-read_word-version-requires c = search rules
+pub returns-in_err-rest-clause-lines : goal.returns-in_err-rest-clause-lines
+unfolding opening
+returns-in_err-rest-clause-lines c =
+    let is = err_from_is_err_and c.from_residual.result c.from_residual.ensures.1 in
+    let line = err_or c.read_word.result (Line 1) c.in_err-rest.field-0.0 c.in_err-rest.ensures.ok_part c.in_err-rest.ensures.value in
+    let version = rw c.in_err-rest.ensures.ok_part at c.read_word.ensures in
+    rw (is.1, is.2, line) (rw version refl)
 
-pub read_word-include-requires : goal.read_word-include-requires
-read_word-include-requires c = search rules
+pub returns-in_err-rest-2-clause-lines : goal.returns-in_err-rest-2-clause-lines
+unfolding opening
+returns-in_err-rest-2-clause-lines c =
+    let is = err_from_is_err_and c.from_residual-in_err-rest-2.result c.from_residual-in_err-rest-2.ensures.1 in
+    let line = err_or c.read_word-2.result (Line 2) c.in_err-rest-2.field-0.0 c.in_err-rest-2.ensures.ok_part c.in_err-rest-2.ensures.value in
+    let version = rw c.in_ok-rest.ensures.ok_part at c.read_word.ensures in
+    let include = rw c.in_err-rest-2.ensures.ok_part at c.read_word-2.ensures in
+    rw (is.1, is.2, line) (rw (version, include) refl)
 
-pub read_register-q-requires : goal.read_register-q-requires
-read_register-q-requires c = search rules
-
-pub read_register-c-requires : goal.read_register-c-requires
-read_register-c-requires c = search rules
-
-pub line_of-line-requires : goal.line_of-line-requires
-line_of-line-requires c = tt
-
-pub returns : goal.returns
-returns c =
-    let v = c.read_word-version in
-    let n = c.read_word-include in
-    let q = c.read_register-q in
-    let b = c.read_register-c in
-    let l = c.line_of-line in
-    let s = c.args in (
-      record {
-        exact = rw l.ensures (opening-lines s.text.now v.result.ok n.result.ok v.result.next n.result.next q.result.size b.result.size q.result.next b.result.next v.ensures n.ensures q.ensures b.ensures);
-        within = b.ensures.reads.within;
-      },
-      rw l.ensures (line-five v.result.ok n.result.ok q.result.size b.result.size),
-    )
+pub returns-clause-lines : goal.returns-clause-lines
+returns-clause-lines c =
+    let version = rw c.in_ok-rest.ensures.ok_part at c.read_word.ensures in
+    let include = rw c.in_ok-rest-2.ensures.ok_part at c.read_word-2.ensures in
+    opened-as c.args.text.now c.in_ok-rest.rest c.in_ok-rest-2.rest c.read_register.result c.read_register-2.result c.unwrap_or-wires.result c.unwrap_or-bits.result version include c.read_register.ensures c.unwrap_or-wires.ensures
+    c.read_register-2.ensures c.unwrap_or-bits.ensures

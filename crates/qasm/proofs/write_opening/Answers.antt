@@ -8,17 +8,7 @@ use Rattle.qasm.specs.Import.{version_line, include_line, wires_line}
 use Rattle.qasm.specs.Export.{register_text, opening_text}
 use Rattle.qasm.specs.Clauses.{register_size}
 use Rattle.qasm.proofs.Codes.{wires-size, bits-size}
-use borrow.Author.Rules.{rules}
 use Rattle.qasm.proofs.write_opening.Goals as goal
-
-pub write_word-version-requires : goal.write_word-version-requires
-write_word-version-requires c = omega (arith, c.requires.opening_size_in_bounds)
-
-pub write_word-include-requires : goal.write_word-include-requires
-write_word-include-requires c =
-    let version : Prints 14 version_line c.args.out.now c.args.at c.write_word-version.new.out c.write_word-version.result = record { writes = c.write_word-version.ensures; short = omega arith } in
-    let behind-version : c.write_word-version.result + 64 ≤ length c.write_word-version.new.out = prints-next 14 64 _ _ c.args.at _ _ c.requires.opening_size_in_bounds (version) in
-    omega (arith, behind-version)
 
 pub write_register-q-requires : goal.write_register-q-requires
 write_register-q-requires c =
@@ -37,9 +27,6 @@ write_register-requires c =
     let wires : Prints register_size (register_text wires_line c.args.wires) c.write_word-include.new.out c.write_word-include.result c.write_register-q.new.out c.write_register-q.result = rw wires-size at c.write_register-q.ensures in
     let behind-wires : c.write_register-q.result + register_size ≤ length c.write_register-q.new.out = prints-next register_size register_size _ _ _ _ _ (behind-include) (wires) in
     (rw bits-size (behind-wires), c.requires.wires_bound.1)
-
-pub shape_of-out : goal.shape_of-out
-shape_of-out c = search rules
 
 pub returns : goal.returns
 unfolding opening_text

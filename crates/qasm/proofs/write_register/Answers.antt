@@ -1,5 +1,5 @@
 -- `qasm::write_register` meets its contract.
-use mathlib.Core.Path.{refl, sym}
+use mathlib.Core.Path.{sym}
 use native.Mathlib.Omega.{arith}
 use borrow.Author.Tests.{eq-eqb, ne_eqb}
 use lib.IntN.{pos}
@@ -7,7 +7,6 @@ use mir.Syntax.{w32}
 use mir.ValLaws.{to_z-of_z}
 use Rattle.text.proofs.Pasting.{pasted-none}
 use Rattle.qasm.specs.Export.{register_text}
-use borrow.Author.Rules.{rules}
 use Rattle.qasm.proofs.write_register.Goals as goal
 
 pub returns-then-size-eq0 : goal.returns-then-size-eq0
@@ -15,18 +14,6 @@ unfolding register_text
 returns-then-size-eq0 c =
     let s = c.args in
     rw (eq-eqb s.size 0 c.if-size-eq0.true) (record { writes = record { text = sym (pasted-none _ s.at); behind = omega arith }; short = omega arith })
-
-pub overflow_cast-row : goal.overflow_cast-row
-overflow_cast-row c = search rules
-
-pub slice_bounds-write_by-end : goal.slice_bounds-write_by-end
-slice_bounds-write_by-end c = search rules
-
-pub write_by-requires : goal.write_by-requires
-write_by-requires c = record { template_in_bounds = c.requires.0; row_len = refl }
-
-pub shape_of-out : goal.shape_of-out
-shape_of-out c = search rules
 
 pub returns : goal.returns
 unfolding register_text

@@ -1,72 +1,42 @@
 -- `reading::read_list` meets its contract.
-use mathlib.Core.Path.{◌≡◌}
-use native.Mathlib.Omega.{arith}
-use borrow.Author.Rules.{rules}
-use lib.ListN.{drop}
-use Rattle.text.specs.Reading.{found, count_line}
-use Rattle.text.proofs.Readings.{reads_ok, reads-no}
-use Rattle.spelling.specs.Lines.{good}
-use Rattle.spelling.specs.Texts.{gates_word}
-use Rattle.spelling.specs.Reading.{head_at}
-use Rattle.spelling.specs.Heads.{head_of}
-use Rattle.reading.proofs.Texts.{lines_ok, lines-no, bad-head, bad-count, too_many, all_read, not-all}
+use Rattle.std.proofs.lemmas.Result.{err_from_is_err_and}
+use Rattle.reading.specs.declared.Wrong.TheVariants.{Line}
+use Rattle.reading.proofs.Gates.{err_or}
+use Rattle.reading.proofs.Texts.{bad-head, bad-count, too_many, all_read, not_all}
 use Rattle.reading.proofs.read_list.Goals as goal
-use Rattle.reading.proofs.read_list.Goals.{Else-not-found, Else-not-ok}
 
--- the head is right
-headed : (c : Else-not-ok) →
-    let h = c.read_head-h.result in
-    let s = c.args in
-    head_at s.line (drop s.at s.text.now) ≡ good (head_of h.head) h.line (drop h.next s.text.now)
-headed c = lines_ok _ _ _ _ _ _ c.read_head-h.ensures.0 c.if-not-ok.false
+pub returns-in_err-head : goal.returns-in_err-head
+returns-in_err-head c =
+    let is = err_from_is_err_and c.from_residual.result c.from_residual.ensures.1 in
+    rw (is.1, is.2) (bad-head c.args.text.now c.args.line c.args.most c.args.numbers.now c.in_err-head.field-0.0 (rw c.in_err-head.was at c.read_head.ensures.lines))
 
--- and so is the line of the count
-counted : (c : Else-not-found) →
-    let n = c.read_count-n.result in
-    let s = c.args in
-    count_line gates_word (drop c.read_head-h.result.next s.text.now) ≡ found n.value (drop n.next s.text.now)
-counted c = reads_ok _ _ _ _ _ c.read_count-n.ensures c.if-not-found.false
-
-pub read_head-h-requires : goal.read_head-h-requires
-read_head-h-requires c = (c.requires.within, c.requires.early)
-
-pub returns-then-not-ok : goal.returns-then-not-ok
-returns-then-not-ok c =
-    let h = c.read_head-h in
-    bad-head _ _ _ _ _ _ (lines-no _ _ _ _ _ _ h.ensures.0 c.if-not-ok.true)
-
-pub read_count-n-requires : goal.read_count-n-requires
-read_count-n-requires c = search rules
-
-pub overflow_cast-count : goal.overflow_cast-count
-overflow_cast-count c = search rules
-
-pub returns-then-not-found : goal.returns-then-not-found
-returns-then-not-found c =
-    let n = c.read_count-n in
-    bad-count _ _ _ _ _ _ _ _ (headed (goal.at.returns-then-not-found c).Else-not-ok) (reads-no _ _ _ _ _ n.ensures c.if-not-found.true)
+pub returns-in_err-count : goal.returns-in_err-count
+returns-in_err-count c =
+    let h = c.in_ok-head in
+    let is = err_from_is_err_and c.from_residual-in_err-count.result c.from_residual-in_err-count.ensures.1 in
+    let line = err_or c.read_count.result (Line h.line) c.in_err-count.field-0.0 c.in_err-count.ensures.ok_part c.in_err-count.ensures.value in
+    rw (is.1, is.2, line)
+    (bad-count c.args.text.now c.args.line c.args.most c.args.numbers.now h.head h.line h.rest.now (rw h.was at c.read_head.ensures.lines) (rw c.in_err-count.ensures.ok_part at c.read_count.ensures))
 
 pub returns-then-most-count : goal.returns-then-most-count
 returns-then-most-count c =
-    too_many _ _ _ _ _ c.read_head-h.result.head _ _ _ _ (headed (goal.at.returns-then-most-count c).Else-not-ok) (counted (goal.at.returns-then-most-count c).Else-not-found) c.if-most-count.true
+    let h = c.in_ok-head in
+    let n = c.in_ok-count in
+    too_many c.args.text.now c.args.line c.args.most c.args.numbers.now h.head h.line h.rest.now (rw h.was at c.read_head.ensures.lines) n.count n.rest.now (rw n.ensures.ok_part at c.read_count.ensures) c.if-most-count.true
 
-pub overflow_add-line : goal.overflow_add-line
-overflow_add-line c = search rules
+pub returns-in_err-last : goal.returns-in_err-last
+returns-in_err-last c =
+    let h = c.in_ok-head in
+    let n = c.in_ok-count in
+    let is = err_from_is_err_and c.from_residual-in_err-last.result c.from_residual-in_err-last.ensures.1 in
+    rw (is.1, is.2)
+    (not_all c.args.text.now c.args.line c.args.most c.args.numbers.now h.head h.line h.rest.now (rw h.was at c.read_head.ensures.lines) n.count n.rest.now (rw n.ensures.ok_part at c.read_count.ensures) c.if-most-count.false c.read_rows.new.numbers
+    c.read_rows.ensures.numbers c.in_err-last.field-0.0 (rw c.in_err-last.was at c.read_rows.ensures.lines))
 
-pub read_rows-r-requires : goal.read_rows-r-requires
-read_rows-r-requires c =
-    record { at_in_bounds = (c.read_count-n.ensures.within, omega (arith, c.read_head-h.ensures.1)); n_in_bounds = omega (arith, c.if-most-count.false, c.requires.holds) }
-
-pub shape_of-numbers-then-r : goal.shape_of-numbers-then-r
-shape_of-numbers-then-r c = search rules
-
-pub returns-then-r : goal.returns-then-r
-returns-then-r c =
-    all_read _ _ _ _ _ c.read_head-h.result.head _ _ _ _ (headed (goal.at.returns-then-r c).Else-not-ok) (counted (goal.at.returns-then-r c).Else-not-found) c.if-most-count.false _ _ _ _ c.read_rows-r.ensures c.if-r.true
-
-pub shape_of-numbers-else-r : goal.shape_of-numbers-else-r
-shape_of-numbers-else-r c = search rules
-
-pub returns-else-r : goal.returns-else-r
-returns-else-r c =
-    not-all _ _ _ _ _ c.read_head-h.result.head _ _ _ _ (headed (goal.at.returns-else-r c).Else-not-ok) (counted (goal.at.returns-else-r c).Else-not-found) c.if-most-count.false _ _ _ _ c.read_rows-r.ensures c.if-r.false
+pub returns : goal.returns
+returns c =
+    let h = c.in_ok-head in
+    let n = c.in_ok-count in
+    let l = c.in_ok-last in
+    all_read c.args.text.now c.args.line c.args.most c.args.numbers.now h.head h.line h.rest.now (rw h.was at c.read_head.ensures.lines) n.count n.rest.now (rw n.ensures.ok_part at c.read_count.ensures) c.if-most-count.false c.read_rows.new.numbers
+    c.read_rows.ensures.numbers l.last l.end (rw l.was at c.read_rows.ensures.lines)

@@ -1,49 +1,18 @@
 -- `reading::read_text` meets its contract: a list from the first byte on, and nothing behind it.
-use native.Mathlib.Omega.{arith}
-use borrow.Author.Rules.{rules}
-use Rattle.reading.proofs.Texts.{front-is, text-wrong, text-large, text-whole, text-surplus}
+use Rattle.std.proofs.Common.{sym, ◌∙◌}
+use Rattle.std.proofs.lemmas.Result.{err_from_is_err_and}
+use Rattle.reading.proofs.Texts.{text-wrong, text-whole, text-surplus}
 use Rattle.reading.proofs.read_text.Goals as goal
 
-pub read_list-requires : goal.read_list-requires
-read_list-requires c = record { within = omega arith; early = omega arith; holds = c.requires }
+pub returns-in_err-list : goal.returns-in_err-list
+returns-in_err-list c =
+    let is = err_from_is_err_and c.from_residual.result c.from_residual.ensures.1 in
+    rw (is.1, is.2) (text-wrong c.args.text.now c.args.most c.args.numbers.now c.read_list.new.numbers c.in_err-list.field-0.0 (rw c.in_err-list.was at c.read_list.ensures))
 
-pub enum_known-line : goal.enum_known-line
-enum_known-line c = search rules
+pub returns-then-is_empty : goal.returns-then-is_empty
+returns-then-is_empty c =
+    text-whole c.args.text.now c.args.most c.args.numbers.now c.read_list.new.numbers c.in_ok-list.list (rw c.in_ok-list.was at c.read_list.ensures) (sym c.is_empty.ensures ∙ c.if-is_empty.true)
 
-pub enum_known-line-in-Large-1 : goal.enum_known-line-in-Large-1
-enum_known-line-in-Large-1 c = search rules
-
-pub enum_known-head : goal.enum_known-head
-enum_known-head c = search rules
-
-pub shape_of-numbers-in-Wrong : goal.shape_of-numbers-in-Wrong
-shape_of-numbers-in-Wrong c = search rules
-
-pub returns-in-Wrong : goal.returns-in-Wrong
-returns-in-Wrong c =
-    let r = c.read_list in
-    text-wrong _ _ _ _ _ (front-is _ _ _ _ _ _ _ _ c.in-Wrong.is r.ensures)
-
-pub shape_of-numbers-in-Large : goal.shape_of-numbers-in-Large
-shape_of-numbers-in-Large c = search rules
-
-pub returns-in-Large : goal.returns-in-Large
-returns-in-Large c =
-    let r = c.read_list in
-    text-large _ _ _ _ _ (front-is _ _ _ _ _ _ _ _ c.in-Large.is r.ensures)
-
-pub shape_of-numbers-then-end-text : goal.shape_of-numbers-then-end-text
-shape_of-numbers-then-end-text c = search rules
-
-pub returns-then-end-text : goal.returns-then-end-text
-returns-then-end-text c =
-    let r = c.read_list in
-    text-whole _ _ _ _ _ _ _ _ (front-is _ _ _ _ _ _ _ _ c.in-Whole.is r.ensures) c.if-end-text.true
-
-pub shape_of-numbers-else-end-text : goal.shape_of-numbers-else-end-text
-shape_of-numbers-else-end-text c = search rules
-
-pub returns-else-end-text : goal.returns-else-end-text
-returns-else-end-text c =
-    let r = c.read_list in
-    text-surplus _ _ _ _ _ _ _ _ (front-is _ _ _ _ _ _ _ _ c.in-Whole.is r.ensures) c.if-end-text.false
+pub returns-else-is_empty : goal.returns-else-is_empty
+returns-else-is_empty c =
+    text-surplus c.args.text.now c.args.most c.args.numbers.now c.read_list.new.numbers c.in_ok-list.list (rw c.in_ok-list.was at c.read_list.ensures) (sym c.is_empty.ensures ∙ c.if-is_empty.false)

@@ -1,26 +1,7 @@
--- `rows::add_kept` meets its contract, by what its callees ensure.
-use borrow.Author.Rules.{rules}
+use mathlib.Core.Path.{◌∙◌, ap}
+use Rattle.rules.specs.Bit.{xor}
+use Rattle.rows.proofs.Room.{row_sum}
 use Rattle.rows.proofs.add_kept.Goals as goal
 
-pub get-x-requires : goal.get-x-requires
-get-x-requires c = search rules
-
-pub kept-requires : goal.kept-requires
-kept-requires c = tt
-
-pub xor-requires : goal.xor-requires
-xor-requires c = tt
-
-pub put-requires : goal.put-requires
-put-requires c = search rules
-
-pub shape_of-m : goal.shape_of-m
-shape_of-m c = search rules
-
 pub returns : goal.returns
-returns c =
-    let g = c.get-x.ensures in
-    let k = c.kept.ensures in
-    let x = c.xor.ensures in
-    let p = c.put.ensures in
-    cc
+returns c = row_sum _ _ _ _ (c.bitxor.ensures ∙ ap (xor _) c.kept.ensures)

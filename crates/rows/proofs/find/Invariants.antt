@@ -1,4 +1,4 @@
--- `rows::find` meets its contract. The loop's invariant: what is found from r on is what is found from `from` on. The measure is the rows left.
+-- What is found from r on is what is found from `from` on.
 use mathlib.Core.Path.{◌≡◌}
 use Prim.Native.Nat.{◌-◌}
 use lib.ListN.{length}
@@ -8,6 +8,3 @@ use Rattle.rows.proofs.find.Given as goal
 
 abbrev pub invariant-loop-r : goal.invariant-loop-r
 invariant-loop-r l = first_with l.column (length (rows_of l.m) - l.from) l.from (rows_of l.m) ≡ first_with l.column (length (rows_of l.m) - l.r) l.r (rows_of l.m)
-
-abbrev pub decreases-loop-r : goal.decreases-loop-r
-decreases-loop-r l = length (rows_of l.m) - l.r

@@ -1,14 +1,10 @@
--- `rows::invert_into` meets its contract. The loop's invariant: what the columns left give is the whole inverse. The measure is the columns left.
+-- What the columns left give is the whole inverse.
 use mathlib.Core.Path.{◌≡◌}
-use Prim.Native.Nat.{◌≤◌, ◌-◌}
+use Prim.Native.Nat.{◌-◌}
 use lib.ListN.{length}
 use Rattle.rules.specs.Close.{invert_from, inverse}
 use Rattle.rows.specs.Rows.{rows_of, pair}
 use Rattle.rows.proofs.invert_into.Given as goal
 
 abbrev pub invariant-loop-column : goal.invariant-loop-column
-invariant-loop-column l = (length l.a ≡ length l.initial.a) × (length l.inv ≡ length l.initial.a) × (l.column ≤ length (rows_of l.initial.a))
-    × (inverse (rows_of l.initial.a) ≡ invert_from (length (rows_of l.initial.a)) (length (rows_of l.initial.a) - l.column) l.column (pair (rows_of l.a) (rows_of l.inv)))
-
-abbrev pub decreases-loop-column : goal.decreases-loop-column
-decreases-loop-column l = length (rows_of l.initial.a) - l.column
+invariant-loop-column l = inverse (rows_of l.initial.a) ≡ invert_from (length (rows_of l.initial.a)) (length (rows_of l.initial.a) - l.column) l.column (pair (rows_of l.a) (rows_of l.inv))

@@ -1,5 +1,3 @@
--- `rows::row_times_matrix` meets its contract. The loop's invariant: what is added already, with what the columns left give, is the whole product.
--- The measure is the columns left, as a number.
 use mathlib.Core.Path.{◌≡◌, sym, ap, ◌∙◌}
 use Prim.Native.Nat.{◌<◌}
 use native.Mathlib.Nat.{le_refl, le_trans, lt_of_le_of_lt, pos_of_ne-zero}
@@ -12,6 +10,7 @@ use Rattle.parity.specs.Columns.{clear_lowest, Lowest}
 use Rattle.parity.specs.View.{val}
 use Rattle.parity.proofs.Laws.{xor_zero_l, xor_zero_r, xor_assoc, clear-lt, clear-le}
 use Rattle.rows.specs.Rows.{rows_of}
+use Rattle.rows.proofs.Room.{row_count, row_get}
 use Rattle.rows.proofs.Sums.{times-lowest, times_zero, lowest-lt}
 use Rattle.rows.proofs.row_times_matrix.Goals as goal
 use Rattle.rows.proofs.row_times_matrix.Goals.{After-lowest-at, In-loop-left}
@@ -25,29 +24,11 @@ some c =
 low : (c : After-lowest-at) → 0 < val c.loop-left.left → Lowest (val c.loop-left.left) c.lowest-at.result
 low c h = c.lowest-at.ensures.low h
 
-pub zero-sum-requires : goal.zero-sum-requires
-zero-sum-requires c = tt
-
 pub loop-left-init : goal.loop-left-init
 loop-left-init c = (le_refl _, rw c.zero-sum.ensures (xor_zero_l _))
 
-pub is_zero-requires : goal.is_zero-requires
-is_zero-requires c = tt
-
-pub clear_lowest-rest-requires : goal.clear_lowest-rest-requires
-clear_lowest-rest-requires c = tt
-
-pub lowest-at-requires : goal.lowest-at-requires
-lowest-at-requires c = tt
-
-pub overflow_cast-at : goal.overflow_cast-at
-overflow_cast-at c = omega (arith, c.lowest-at.ensures.small (some (goal.at.overflow_cast-at c).In-loop-left))
-
-pub get-requires : goal.get-requires
-get-requires c = lowest-lt _ _ (low (goal.at.get-requires c).After-lowest-at (some (goal.at.get-requires c).In-loop-left)) _ (lt_of_le_of_lt c.loop-left.invariant.0 c.requires)
-
-pub xor-sum-requires : goal.xor-sum-requires
-xor-sum-requires c = tt
+pub bounds-m-at : goal.bounds-m-at
+bounds-m-at c = omega (arith, row_count c.args.m.now, lowest-lt _ _ (low (goal.at.bounds-m-at c).After-lowest-at (some (goal.at.bounds-m-at c).In-loop-left)) _ (lt_of_le_of_lt c.loop-left.invariant.0 c.requires))
 
 pub loop-left-smaller : goal.loop-left-smaller
 loop-left-smaller c = rw c.clear_lowest-rest.ensures (clear-lt _ (some (goal.at.loop-left-smaller c).In-loop-left))
@@ -57,7 +38,7 @@ loop-left-preserved c =
     let l = c.loop-left in
     let m = rows_of c.args.m.now in
     let x = get_or m c.lowest-at.result 0 in
-    rw (c.clear_lowest-rest.ensures, c.xor-sum.ensures, c.get.ensures) (
+    rw (c.clear_lowest-rest.ensures, c.bitxor-sum.ensures, ← row_get c.args.m.now c.lowest-at.result) (
       le_trans (clear-le (val l.left)) l.invariant.0,
       xor_assoc (val l.sum) x (times (clear_lowest (val l.left)) 0 m)
           ∙ ap (xor (val l.sum)) (sym (times-lowest _ _ (low (goal.at.loop-left-preserved c).After-lowest-at (some (goal.at.loop-left-preserved c).In-loop-left)) m)) ∙ l.invariant.1,

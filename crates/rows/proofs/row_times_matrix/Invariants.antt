@@ -1,4 +1,4 @@
--- `rows::row_times_matrix` meets its contract. The loop's invariant: what is added already, with what the columns left give, is the whole product.
+-- What is added already, with what the columns left give, is the whole product.
 -- The measure is the columns left, as a number.
 use mathlib.Core.Path.{◌≡◌}
 use Prim.Native.Nat.{◌≤◌}

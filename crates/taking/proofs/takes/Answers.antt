@@ -4,8 +4,7 @@ use mathlib.Core.Bool.{Bool, true, false, ◌||◌, cond, or-true, or-false, tru
 use mathlib.Core.List.{List}
 use Prim.Native.Nat.{ℕ, ◌+◌, ◌≤◌, ◌<◌}
 use native.Mathlib.Nat.{lt_of_lt_of_le}
-use borrow.Author.Rules.{rules}
-use borrow.Author.Tests.{not-true, not-false, leb-true}
+use borrow.Author.Tests.{leb-true}
 use lib.ListN.{length, get_or}
 use lib.Dec.{eqb, leb, ltb}
 use Rattle.rules.specs.Scan.{has_term}
@@ -19,6 +18,7 @@ use Rattle.taking.specs.Asking.{new, parity_at, last_wire}
 use Rattle.block.proofs.Codes.{op-other, op-some, two-wires}
 use Rattle.taking.proofs.Taking.{takes-is, takes-other, fits_fresh, searched}
 use Rattle.taking.proofs.takes.Goals as goal
+use Rattle.taking.proofs.takes.Goals.{After-fits}
 
 -- the last wire is in the table
 last-in : (g : Gate) (table : List ℕ) → Wired g table → g.code ≤ 9 → last_wire g < length table
@@ -42,49 +42,37 @@ none false false t e = (refl, (refl, e))
 pub returns-then-code : goal.returns-then-code
 returns-then-code c = λ names h. rw (op-other c.args.g c.if-code.true) (takes-other h _ (view c.args.plan))
 
-pub last_wire-requires : goal.last_wire-requires
-last_wire-requires c = tt
-
-pub fits-requires : goal.fits-requires
-fits-requires c =
-    let k = op-some c.args.g.code c.if-code.false in
-    (c.requires.few, (c.requires.wired.first-in, rw c.last_wire.ensures (last-in c.args.g _ c.requires.wired k.1)))
+-- what the test of the qubit cap says, of the gate's last wire
+told : (c : After-fits) → leb (c.args.b.wires + new (get_or c.args.table.now c.args.g.first 0) + cond (leb 8 c.args.g.code) (new (get_or c.args.table.now (last_wire c.args.g) 0)) 0) c.args.plan.qubits ≡ c.fits.result
+told c = sym (rw (← c.last_wire.ensures) c.fits.ensures)
 
 pub returns-then-not-fits : goal.returns-then-not-fits
 returns-then-not-fits c =
-    let told : c.fits.result ≡ leb (c.args.b.wires + new (get_or c.args.table.now c.args.g.first 0) + cond (leb 8 c.args.g.code) (new (get_or c.args.table.now (last_wire c.args.g) 0)) 0) c.args.plan.qubits = rw (← c.last_wire.ensures) c.fits.ensures in
     let k = op-some c.args.g.code c.if-code.false in
-    let w = sym told ∙ not-true _ c.if-not-fits.true-raw in
+    let w = told (goal.at.returns-then-not-fits c).After-fits ∙ c.if-not-fits.true in
     λ names h. sym (takes-is h _ (view c.args.plan) c.args.g k.0 k.1 c.requires.wired.apart (record { few = c.requires.terms; same = refl }) ∙ rw w)
 
 pub returns-then-two-code : goal.returns-then-two-code
 returns-then-two-code c =
-    let told : c.fits.result ≡ leb (c.args.b.wires + new (get_or c.args.table.now c.args.g.first 0) + cond (leb 8 c.args.g.code) (new (get_or c.args.table.now (last_wire c.args.g) 0)) 0) c.args.plan.qubits = rw (← c.last_wire.ensures) c.fits.ensures in
     let k = op-some c.args.g.code c.if-code.false in
-    let w = sym told ∙ not-false _ c.if-not-fits.false-raw in
+    let w = told (goal.at.returns-then-two-code c).After-fits ∙ c.if-not-fits.false in
     λ names h. sym (takes-is h _ (view c.args.plan) c.args.g k.0 k.1 c.requires.wired.apart (record { few = c.requires.terms; same = refl })
     ∙ rw w (spare (leb 8 c.args.g.code) (eqb c.args.g.code 1) (has_term (parity_at c.args.b.wires (rows_of c.args.rows.now) (get_or c.args.table.now c.args.g.first 0)) (terms_at c.args.b c.args.room.now)) (ltb c.args.b.terms c.args.plan.terms) c.if-two-code.true))
 
 pub parity_of-p-requires : goal.parity_of-p-requires
 parity_of-p-requires c =
-    let told : c.fits.result ≡ leb (c.args.b.wires + new (get_or c.args.table.now c.args.g.first 0) + cond (leb 8 c.args.g.code) (new (get_or c.args.table.now (last_wire c.args.g) 0)) 0) c.args.plan.qubits = rw (← c.last_wire.ensures) c.fits.ensures in
     record {
       inside = c.requires.wired.first-in;
       old = c.requires.held _;
-      fresh = λ e. lt_of_lt_of_le (fits_fresh _ _ _ _ (sym told ∙ not-false _ c.if-not-fits.false-raw) e) c.requires.low;
+      fresh = λ e. lt_of_lt_of_le (fits_fresh _ _ _ _ (told (goal.at.parity_of-p-requires c).After-fits ∙ c.if-not-fits.false) e) c.requires.low;
     }
-
-pub find-requires : goal.find-requires
-find-requires c = search rules
 
 pub returns : goal.returns
 unfolding terms_at
 returns c =
-    let told : c.fits.result ≡ leb (c.args.b.wires + new (get_or c.args.table.now c.args.g.first 0) + cond (leb 8 c.args.g.code) (new (get_or c.args.table.now (last_wire c.args.g) 0)) 0) c.args.plan.qubits = rw (← c.last_wire.ensures) c.fits.ensures in
-    let full : (leb 8 c.args.g.code ≡ false) × ((eqb c.args.g.code 1 ≡ false) × (ltb c.args.b.terms c.args.plan.terms ≡ false)) = none (leb 8 c.args.g.code) (eqb c.args.g.code 1) (ltb c.args.b.terms c.args.plan.terms) c.if-two-code.false in
     let k = op-some c.args.g.code c.if-code.false in
-    let w = sym told ∙ not-false _ c.if-not-fits.false-raw in
-    let f = full in
-    let m : ltb c.find.result c.args.b.terms ≡ has_term (parity_at c.args.b.wires (rows_of c.args.rows.now) (get_or c.args.table.now c.args.g.first 0)) (terms_at c.args.b c.args.room.now) =
-    searched c.args.b.terms _ _ _ _ c.requires.terms c.find.ensures c.parity_of-p.ensures in
+    let w = told (goal.at.returns c).After-fits ∙ c.if-not-fits.false in
+    let f = none (leb 8 c.args.g.code) (eqb c.args.g.code 1) (ltb c.args.b.terms c.args.plan.terms) c.if-two-code.false in
+    let m : c.is_some.result ≡ has_term (parity_at c.args.b.wires (rows_of c.args.rows.now) (get_or c.args.table.now c.args.g.first 0)) (terms_at c.args.b c.args.room.now) =
+    c.is_some.ensures ∙ searched c.args.b.terms _ _ _ _ c.requires.terms c.find.ensures c.parity_of-p.ensures in
     λ names h. m ∙ sym (takes-is h _ (view c.args.plan) c.args.g k.0 k.1 c.requires.wired.apart (record { few = c.requires.terms; same = refl }) ∙ rw (w, f.0, f.1.0, f.1.1) (or-false _))

@@ -1,87 +1,59 @@
--- `terms::find` meets its contract. The loop's invariant is `Down`: the next to look at has the hash, and none behind it is the parity. The measure is
--- the place.
-use mathlib.Core.Path.{◌≡◌, sym, ap, ◌∙◌}
-use Prim.Native.Nat.{◌-◌, ◌<◌}
-use native.Mathlib.Omega.{arith}
-use lib.ListN.{length, get_or}
-use lib.Dec.{eqb, ltb}
-use borrow.Author.Tests.{eqb-true, eqb-false, ltb-true}
-use Rattle.rules.specs.Fold.{Term}
-use Rattle.rules.proofs.Bits.{and_left, and_right}
+-- `terms::find` meets its contract.
+use Rattle.std.proofs.Common.{◌<◌, suc, ◌∙◌, sym, arith, length, get_or}
+use borrow.Author.Tests.{eqb-true, eqb-false}
 use Rattle.parity.specs.View.{val}
-use Rattle.terms.specs.Terms.{parity_at}
-use Rattle.terms.proofs.Chains.{chain_first, chain-less, chain_next, chain-met}
+use Rattle.terms.specs.Terms.{terms_of, slot_of, parity_at}
+use Rattle.terms.proofs.Chains.{Down, chain_first, chain-less, chain_next, chain-met}
 use Rattle.terms.proofs.Indexing.{slot_lt, found-met, found-end}
 use Rattle.terms.proofs.find.Goals as goal
+use Rattle.terms.proofs.find.Goals.{After-slot-h, In-Some}
 
-pub slot-h-requires : goal.slot-h-requires
-slot-h-requires c = c.requires.1.few
+inside : (c : After-slot-h) → c.slot-h.result < length c.args.heads.now
+inside c = rw c.slot-h.ensures (slot_lt _ _ c.requires.1.some)
 
 pub offset_bounds-heads-h : goal.offset_bounds-heads-h
-offset_bounds-heads-h c =
-    let inside : c.slot-h.result < length c.args.heads.now = rw c.slot-h.ensures (slot_lt _ _ c.requires.1.some) in
-    omega (arith, inside)
+offset_bounds-heads-h c = omega (arith, inside (goal.at.offset_bounds-heads-h c).After-slot-h)
 
 pub bounds-heads-h : goal.bounds-heads-h
-bounds-heads-h c =
-    let inside : c.slot-h.result < length c.args.heads.now = rw c.slot-h.ensures (slot_lt _ _ c.requires.1.some) in
-    inside
-
-pub overflow_cast-head : goal.overflow_cast-head
-overflow_cast-head c = omega (arith, c.shared_slice_known-3-1.given c.slot-h.result)
-
-pub hit-requires : goal.hit-requires
-hit-requires c = c.requires.0
+bounds-heads-h c = inside (goal.at.bounds-heads-h c).After-slot-h
 
 -- a head with the parity is its place: the parities are apart
-pub returns-then-hit : goal.returns-then-hit
-returns-then-hit c =
-    let s = c.args in
-    let h = get_or s.heads.now c.slot-h.result 0 in
-    let t = sym c.hit.ensures ∙ c.if-hit.true in
-    let l : h < s.count = ltb-true h s.count (and_left (ltb h s.count) (eqb (parity_at s.room.now h) (val s.p)) t) in
-    let e : parity_at s.room.now h ≡ val s.p = eqb-true _ _ (and_right (ltb h s.count) (eqb (parity_at s.room.now h) (val s.p)) t) in
-    found-met _ _ _ c.requires.0 _ l e (λ j b q. c.requires.1.linked.apart j _ b l (q ∙ sym e))
+pub returns-then-meets : goal.returns-then-meets
+returns-then-meets c =
+    let e = eqb-true _ _ (sym c.meets.ensures ∙ c.if-meets.true) in
+    let near : get_or c.args.heads.now c.slot-h.result 0 < c.args.count = omega arith in
+    let f = found-met _ _ _ c.requires.0 _ near e (λ j b q. c.requires.1.linked.apart j _ b near (q ∙ sym e)) in
+    (omega arith, f)
 
-pub last-i-requires : goal.last-i-requires
-last-i-requires c =
-    let inside : c.slot-h.result < length c.args.heads.now = rw c.slot-h.ensures (slot_lt _ _ c.requires.1.some) in
-    (c.requires.0, (inside, c.requires.1))
+pub last-next-requires : goal.last-next-requires
+last-next-requires c = (c.requires.0, (inside (goal.at.last-next-requires c).After-slot-h, c.requires.1))
 
-pub loop-i-init : goal.loop-i-init
-loop-i-init c = chain_first _ _ _ _ _ _ c.requires.1.linked _ (rw c.slot-h.ensures at c.last-i.ensures)
+pub loop-next-init : goal.loop-next-init
+loop-next-init c = chain_first _ _ _ _ _ _ c.requires.1.linked _ (rw c.slot-h.ensures at c.last-next.ensures)
 
-pub overflow_sub-i : goal.overflow_sub-i
-overflow_sub-i c = omega arith
+-- the chain from the place that the loop looks at
+down : (c : In-Some) → Down (slot_of (length c.args.heads.now)) (parity_at c.args.room.now) c.args.count (val c.args.p) (suc c.in-Some.i)
+down c = rw c.in-Some.is at c.loop-next.invariant
 
-pub get-e-requires : goal.get-e-requires
-get-e-requires c = omega (arith, c.loop-i.invariant.within)
+pub returns-then-meets-2 : goal.returns-then-meets-2
+returns-then-meets-2 c =
+    let d = down (goal.at.returns-then-meets-2 c).In-Some in
+    let e = eqb-true _ _ (sym c.meets-in-Some.ensures ∙ c.if-meets-2.true) in
+    let f = found-met _ _ _ c.requires.0 _ d.within e (chain-met _ _ _ _ _ _ c.requires.1.linked _ d e) in
+    (omega (arith, d.within), f)
 
-pub same-requires : goal.same-requires
-same-requires c = tt
+pub loop-next-smaller : goal.loop-next-smaller
+loop-next-smaller c =
+    let d = down (goal.at.loop-next-smaller c).In-Some in
+    rw (c.link-next.ensures, c.in-Some.is) (chain-less _ _ _ _ _ _ c.requires.1.linked _ d)
 
-pub overflow_sub-result : goal.overflow_sub-result
-overflow_sub-result c = omega arith
+pub loop-next-preserved : goal.loop-next-preserved
+loop-next-preserved c =
+    let d = down (goal.at.loop-next-preserved c).In-Some in
+    rw c.link-next.ensures (chain_next _ _ _ _ _ _ c.requires.1.linked _ d (eqb-false _ _ (sym c.meets-in-Some.ensures ∙ c.if-meets-2.false)))
 
-pub overflow_sub-i-in-loop-i : goal.overflow_sub-i-in-loop-i
-overflow_sub-i-in-loop-i c = omega arith
-
-pub word-requires : goal.word-requires
-word-requires c = omega (arith, c.loop-i.invariant.within)
-
-pub loop-i-smaller : goal.loop-i-smaller
-loop-i-smaller c = rw c.word.ensures (chain-less _ _ _ _ _ _ c.requires.1.linked _ c.loop-i.invariant (omega arith))
-
-pub loop-i-preserved : goal.loop-i-preserved
-loop-i-preserved c =
-    let test : c.same.result ≡ eqb (parity_at c.args.room.now (c.loop-i.i - 1)) (val c.args.p) = c.same.ensures ∙ ap (λ (t : Term). eqb t.parity (val c.args.p)) c.get-e.ensures in
-    rw c.word.ensures (chain_next _ _ _ _ _ _ c.requires.1.linked _ c.loop-i.invariant (omega arith) (eqb-false _ _ (sym (test) ∙ c.if-same.false)))
-
-pub returns-then-i-eq0 : goal.returns-then-i-eq0
-returns-then-i-eq0 c = found-end _ _ _ c.requires.0 (λ j b. c.loop-i.invariant.none j (omega arith) b)
-
-pub returns-then-same : goal.returns-then-same
-returns-then-same c =
-    let test : c.same.result ≡ eqb (parity_at c.args.room.now (c.loop-i.i - 1)) (val c.args.p) = c.same.ensures ∙ ap (λ (t : Term). eqb t.parity (val c.args.p)) c.get-e.ensures in
-    let e = eqb-true _ _ (sym (test) ∙ c.if-same.true) in
-    found-met _ _ _ c.requires.0 _ (omega (arith, c.loop-i.invariant.within)) e (chain-met _ _ _ _ _ _ c.requires.1.linked _ c.loop-i.invariant (omega arith) e)
+pub returns : goal.returns
+returns c =
+    let d = rw c.in_default.is at c.loop-next.invariant in
+    let f = found-end (val c.args.p) c.args.count (terms_of c.args.room.now) c.requires.0 (λ j b. d.none j (omega arith) b) in
+    λ b. omega arith

@@ -1,37 +1,32 @@
 -- `text::read_integer` meets its contract.
-use native.Mathlib.Omega.{arith}
-use borrow.Author.Rules.{rules}
+use Rattle.std.proofs.Common.{arith, pos, sym, subst}
 use mir.Syntax.{w32}
+use mir.Val.{SFits}
 use mir.ValLaws.{to_z-of_z}
-use Rattle.text.specs.Bytes.{minus}
-use Rattle.rules.proofs.Flags.{byte_le}
-use Rattle.text.proofs.Readings.{stands-within, reads-integer}
+use Rattle.text.proofs.Readings.{natural-small, unsigned_none, unsigned_some, signed_none, signed_zero, signed_some}
 use Rattle.text.proofs.read_integer.Goals as goal
 
-pub stands-minus-requires : goal.stands-minus-requires
-stands-minus-requires c = tt
+pub returns-in_err-value : goal.returns-in_err-value
+returns-in_err-value c = rw c.from_residual.ensures (unsigned_none c.args.text.now c.in_default.ensures c.in_err-value.ensures)
 
-pub overflow_cast-minus : goal.overflow_cast-minus
-overflow_cast-minus c = search rules
+pub overflow_cast-result : goal.overflow_cast-result
+overflow_cast-result c = record { sfits = omega (arith, natural-small c.args.text.now c.in_ok-value.value c.in_ok-value.rest.now c.in_ok-value.ensures) }
 
-pub overflow_add-at : goal.overflow_add-at
-overflow_add-at c =
-    omega (arith, stands-within c.args.text.now c.args.at minus c.stands-minus.result c.requires c.stands-minus.ensures)
+pub returns-in_default : goal.returns-in_default
+returns-in_default c =
+    let small = natural-small c.args.text.now c.in_ok-value.value c.in_ok-value.rest.now c.in_ok-value.ensures in
+    rw (to_z-of_z w32 (pos c.in_ok-value.value) (record { sfits = omega (arith, small) }))
+    (unsigned_some c.args.text.now c.in_ok-value.value c.in_ok-value.rest.now c.in_default.ensures c.in_ok-value.ensures)
 
-pub overflow_cast-minus-2 : goal.overflow_cast-minus-2
-overflow_cast-minus-2 c = search rules
+pub returns-in_err-value-2 : goal.returns-in_err-value-2
+returns-in_err-value-2 c = rw c.from_residual-in_err-value-2.ensures (signed_none c.args.text.now c.in-Some.unsigned.now c.in-Some.ensures c.in_err-value-2.ensures)
 
-pub overflow_add-minus : goal.overflow_add-minus
-overflow_add-minus c = omega (arith, byte_le c.stands-minus.result)
-
-pub read_up_to-n-requires : goal.read_up_to-n-requires
-read_up_to-n-requires c =
-    (stands-within c.args.text.now c.args.at minus _ c.requires c.stands-minus.ensures, omega (arith, byte_le c.stands-minus.result))
-
-pub signed-requires : goal.signed-requires
-signed-requires c = tt
+pub returns-then-value-eq0 : goal.returns-then-value-eq0
+returns-then-value-eq0 c = signed_zero c.args.text.now c.in-Some.unsigned.now c.in_ok-value-2.value c.in_ok-value-2.rest.now c.in-Some.ensures c.in_ok-value-2.ensures c.if-value-eq0.true
 
 pub returns : goal.returns
 returns c =
-    rw (to_z-of_z w32 c.signed.result (record { sfits = c.signed.type_inv }))
-    (reads-integer _ c.args.at _ _ _ _ _ c.stands-minus.ensures c.read_up_to-n.ensures c.signed.ensures)
+    let v = c.in_ok-checked_sub_unsigned in
+    let n = c.in_ok-value-2 in
+    rw (to_z-of_z w32 v.field-0 (subst (SFits w32) (sym v.ensures.1) v.ensures.0))
+    (signed_some c.args.text.now c.in-Some.unsigned.now n.value n.rest.now v.field-0 c.in-Some.ensures n.ensures c.if-value-eq0.false v.ensures.1)

@@ -1,6 +1,5 @@
 -- `text::write_ended` meets its contract.
 use mathlib.Core.List.{[], ◌∷◌}
-use borrow.Author.Rules.{rules}
 use lib.ListN.{length}
 use mir.Syntax.{w32}
 use mir.ValLaws.{to_z-of_z}
@@ -20,9 +19,6 @@ write_byte-requires c =
     let w = c.write_integer-next in
     let e = to_z-of_z w32 c.args.v c.ranges.v in
     room-second (printed c.args.v) (c.args.end ∷ []) c.args.out.now c.args.at _ _ c.requires (rw e at w.ensures)
-
-pub shape_of-out : goal.shape_of-out
-shape_of-out c = search rules
 
 pub returns : goal.returns
 unfolding ended_text

@@ -1,6 +1,5 @@
 -- `text::write_line` meets its contract.
 use mathlib.Core.List.{[], ◌∷◌}
-use borrow.Author.Rules.{rules}
 use lib.ListN.{length}
 use Rattle.text.proofs.Pasting.{room-first, room-second, writes-both}
 use Rattle.text.specs.Bytes.{lf}
@@ -17,9 +16,6 @@ unfolding line_text
 write_byte-requires c =
     let w = c.write_natural-next in
     room-second (decimal c.args.n) (lf ∷ []) c.args.out.now c.args.at _ _ c.requires w.ensures
-
-pub shape_of-out : goal.shape_of-out
-shape_of-out c = search rules
 
 pub returns : goal.returns
 unfolding line_text

@@ -2,7 +2,6 @@
 use mathlib.Core.List.{[], ◌∷◌}
 use Prim.Native.Nat.{◌+◌, ◌*◌, ◌≤◌}
 use native.Mathlib.Omega.{arith}
-use borrow.Author.Rules.{rules}
 use lib.ListN.{length}
 use Rattle.text.specs.Bytes.{lf}
 use Rattle.text.specs.Printing.{named_text}
@@ -10,9 +9,6 @@ use Rattle.text.specs.Clauses.{Prints, line_size}
 use Rattle.text.proofs.Sizes.{prints-next, prints-both}
 use Rattle.text.proofs.write_named.Goals as goal
 use Rattle.text.proofs.write_named.Goals.{After-write_word-first}
-
-pub write_word-first-requires : goal.write_word-first-requires
-write_word-first-requires c = omega (arith, c.requires)
 
 -- the word stands, and there is room for the rest
 word : (c : After-write_word-first) →
@@ -22,16 +18,6 @@ word c = record { writes = c.write_word-first.ensures; short = omega arith }
 behind-word : (c : After-write_word-first) → c.write_word-first.result + (line_size * length c.args.numbers.now + 1) ≤ length c.write_word-first.new.out
 behind-word c =
     prints-next (length c.args.w.now) (line_size * length c.args.numbers.now + 1) _ _ c.args.at _ _ c.requires (word c)
-
-pub write_all_spaced-last-requires : goal.write_all_spaced-last-requires
-write_all_spaced-last-requires c = omega (arith, behind-word (goal.at.write_all_spaced-last-requires c).After-write_word-first)
-
-pub write_byte-requires : goal.write_byte-requires
-write_byte-requires c =
-    prints-next (line_size * length c.args.numbers.now) 1 _ _ _ _ _ (behind-word (goal.at.write_byte-requires c).After-write_word-first) c.write_all_spaced-last.ensures
-
-pub shape_of-out : goal.shape_of-out
-shape_of-out c = search rules
 
 pub returns : goal.returns
 unfolding named_text

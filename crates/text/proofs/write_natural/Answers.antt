@@ -1,54 +1,33 @@
--- `text::write_natural` meets its contract: the digits that are left, written, come to what all of them do.
-use mathlib.Core.Path.{refl, ap, ◌∙◌}
-use Prim.Native.Nat.{ℕ, ◌+◌, ◌-◌}
-use native.Mathlib.Omega.{arith}
-use lib.ListN.{length-set}
-use Rattle.text.proofs.Decimals.{decimal-some, shorter}
-use Rattle.text.proofs.Pasting.{digit-once, digit-last}
+-- `text::write_natural` meets its contract: the last digits stand, and the others are left.
+use Rattle.std.proofs.Common.{◌≡◌, [], suc, ◌+◌, ◌-◌, ◌<◌, length, drop, sym, ◌∙◌, arith}
+use lib.ListN.{drop_of_length-le}
+use Rattle.std.proofs.lemmas.List.{take_all}
+use Rattle.text.specs.Printing.{decimal}
+use Rattle.text.proofs.Decimals.{digital-decimal, worth-decimal, last_digit}
+use Rattle.text.proofs.Pasting.{pasted-none, last_before}
 use Rattle.text.proofs.write_natural.Goals as goal
 
-pub count_digits-requires : goal.count_digits-requires
-count_digits-requires c = tt
-
-pub overflow_add-next : goal.overflow_add-next
-overflow_add-next c = omega (arith, c.count_digits.ensures)
-
-pub loop-left-init : goal.loop-left-init
-loop-left-init c = (ap (λ (k : ℕ). c.args.at + k) c.count_digits.ensures, refl, omega arith, refl)
-
-pub overflow_sub-i : goal.overflow_sub-i
-overflow_sub-i c = omega (arith, decimal-some c.loop-left.left)
-
-pub digit-requires : goal.digit-requires
-digit-requires c = omega arith
-
-pub bounds-out-i : goal.bounds-out-i
-bounds-out-i c = omega (arith, decimal-some c.loop-left.left)
-
-pub loop-left-smaller : goal.loop-left-smaller
-loop-left-smaller c = omega arith
-
-pub loop-left-preserved : goal.loop-left-preserved
-loop-left-preserved c =
-    let p = c.loop-left in
-    let some = decimal-some p.left in
-    let t = digit-once p.out c.args.at p.left (p.i - 1) (omega arith) (omega arith) (omega arith) in
-    (t.1, simp length-set p.invariant.1, omega (arith, shorter p.left (omega arith)), rw c.digit.ensures (t.0 ∙ p.invariant.3))
-
-pub digit-requires-2 : goal.digit-requires-2
-digit-requires-2 c = omega arith
-
-pub bounds-out-at : goal.bounds-out-at
-bounds-out-at c = omega (arith, decimal-some c.loop-left.left)
-
-pub shape_of-out : goal.shape_of-out
-shape_of-out c = simp length-set c.loop-left.invariant.1
-
-pub returns : goal.returns
-returns c =
-    let p = c.loop-left in
-    let one = decimal-some p.left in
+pub loop-i-init : goal.loop-i-init
+loop-i-init c =
+    let ds = decimal c.args.n in
+    let size : c.args.at + c.count_digits.result - c.args.at ≡ length ds = omega (arith, c.count_digits.ensures) in
+    let nothing : drop (length ds) ds ≡ [] = drop_of_length-le ds (omega arith) in
     record {
-      text = rw c.digit-2.ensures (digit-last p.out c.args.at p.left (omega arith) (omega arith) ∙ p.invariant.3);
-      behind = ap (λ (k : ℕ). c.args.at + k) c.count_digits.ensures;
+      above = omega arith;
+      left = rw (size, take_all (length ds) ds (omega arith)) (sym (worth-decimal c.args.n));
+      stand = rw (size, nothing) (sym (pasted-none c.args.out.now (c.args.at + c.count_digits.result)));
+    }
+
+pub loop-i-preserved : goal.loop-i-preserved
+loop-i-preserved c =
+    let p = c.loop-i in
+    let ds = decimal c.args.n in
+    let m = p.i - 1 - c.args.at in
+    let more : p.i - c.args.at ≡ suc m = omega (arith, c.loop-i-test.true) in
+    let short : m < length ds = omega (arith, c.loop-i-test.true, c.count_digits.ensures, p.auto.i) in
+    let t = last_digit ds m p.left (digital-decimal c.args.n) short (rw more at p.invariant.left) in
+    record {
+      above = omega (arith, c.loop-i-test.true);
+      left = t.others;
+      stand = rw p.invariant.stand (last_before c.args.out.now ds c.args.at p.i m c.digit.result (omega (arith, c.loop-i-test.true)) short (omega (arith, c.requires)) (c.digit.ensures ∙ t.last));
     }

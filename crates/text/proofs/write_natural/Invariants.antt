@@ -1,13 +1,13 @@
--- `text::write_natural` meets its contract: the digits that are left, written, come to what all of them do.
-use mathlib.Core.Path.{◌≡◌}
-use Prim.Native.Nat.{◌+◌, ◌≤◌}
-use lib.ListN.{length}
+-- `text::write_natural` meets its contract: the last digits stand, and the others are left.
+use Rattle.std.proofs.Common.{◌≡◌, ◌-◌, ◌≤◌, take, drop}
 use Rattle.text.specs.Bytes.{pasted}
 use Rattle.text.specs.Printing.{decimal}
+use Rattle.text.specs.Reading.{worth}
 use Rattle.text.proofs.write_natural.Given as goal
 
-abbrev pub invariant-loop-left : goal.invariant-loop-left
-invariant-loop-left l = (l.i ≡ l.at + length (decimal l.left)) × (length l.out ≡ length l.initial.out) × (length (decimal l.left) ≤ length (decimal l.n)) × (pasted l.out l.at (decimal l.left) ≡ pasted l.initial.out l.at (decimal l.n))
-
-abbrev pub decreases-loop-left : goal.decreases-loop-left
-decreases-loop-left l = l.left
+abbrev pub invariant-loop-i : goal.invariant-loop-i
+invariant-loop-i l = record {
+  above : l.at ≤ l.i;
+  left : l.left ≡ worth 0 (take (l.i - l.at) (decimal l.n));
+  stand : l.out ≡ pasted l.initial.out l.i (drop (l.i - l.at) (decimal l.n));
+}

@@ -1,9 +1,7 @@
 -- `trace::trace` meets its contract.
-use borrow.Author.Rules.{rules}
+use Rattle.trace.specs.Answer.{answer}
 use Rattle.trace.proofs.trace.Goals as goal
 
-pub answer-requires : goal.answer-requires
-answer-requires c = search rules
-
 pub returns : goal.returns
+unfolding answer
 returns c = c.answer.ensures

@@ -7,12 +7,6 @@ use Rattle.parity.specs.Columns.{clear_lowest}
 use Rattle.parity.proofs.Words.{no-high, clear-low, clear-high}
 use Rattle.parity.proofs.Parity.clear_lowest.Goals as goal
 
-pub overflow_sub-result : goal.overflow_sub-result
-overflow_sub-result c = omega arith
-
-pub overflow_sub-result-then-self-ne0-2 : goal.overflow_sub-result-then-self-ne0-2
-overflow_sub-result-then-self-ne0-2 c = omega arith
-
 pub returns-then-self-ne0 : goal.returns-then-self-ne0
 returns-then-self-ne0 c =
     let s = c.args.self in

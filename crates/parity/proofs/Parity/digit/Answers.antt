@@ -7,15 +7,6 @@ use Prim.Native.Nat.{◌-◌}
 use Rattle.parity.proofs.Words.{low_bit, high_bit, digit-cond}
 use Rattle.parity.proofs.Parity.digit.Goals as goal
 
-pub overflow_shr-result : goal.overflow_shr-result
-overflow_shr-result c = search rules
-
-pub overflow_cast-result-else-column-lt64 : goal.overflow_cast-result-else-column-lt64
-overflow_cast-result-else-column-lt64 c = search rules
-
-pub overflow_shr-result-else-column-lt64 : goal.overflow_shr-result-else-column-lt64
-overflow_shr-result-else-column-lt64 c = search rules
-
 pub returns-then-column-lt64 : goal.returns-then-column-lt64
 returns-then-column-lt64 c =
     let s = c.args in

@@ -3,21 +3,13 @@ use mathlib.Core.Path.{◌≡◌, sym, ap, ◌∙◌, subst}
 use Prim.Native.Nat.{ℕ, ◌+◌, ◌-◌, ◌^◌, ◌<◌}
 use native.Mathlib.Omega.{arith}
 use borrow.Author.Rules.{rules}
-use lib.Count.{count_leading_zeros, leading_le, leading_of_zero}
+use lib.Count.{count_leading_zeros, leading_of_zero}
 use Rattle.parity.specs.declared.Parity.{Parity}
 use Rattle.parity.specs.Columns.{Highest, HighestIs}
 use Rattle.parity.specs.View.{val}
 use Rattle.parity.proofs.Laws as Laws
-use Rattle.parity.proofs.Words.{no-high, leading_lt, low-leading, high-leading}
+use Rattle.parity.proofs.Words.{no-high, low-leading, high-leading}
 use Rattle.parity.proofs.Parity.highest.Goals as goal
-
-pub overflow_sub-result : goal.overflow_sub-result
-overflow_sub-result c = omega (arith, leading_le 64 c.args.self.hi)
-
-pub overflow_sub-result-then-self-ne0-2 : goal.overflow_sub-result-then-self-ne0-2
-overflow_sub-result-then-self-ne0-2 c =
-    let s = c.args.self in
-    omega (arith, leading_lt 64 s.lo (omega arith) (search rules))
 
 -- the record, from the exact number
 highest-is : (p : Parity) (r : ℕ) → p.hi < 2 ^ 64 → p.lo < 2 ^ 64 → r ≡ 127 - count_leading_zeros 128 (val p) → HighestIs (val p) r

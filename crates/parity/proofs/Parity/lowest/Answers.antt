@@ -3,16 +3,13 @@ use mathlib.Core.Path.{◌≡◌, sym, ap, ◌∙◌, subst}
 use Prim.Native.Nat.{ℕ, ◌+◌, ◌*◌, ◌^◌, ◌<◌}
 use native.Mathlib.Omega.{arith}
 use borrow.Author.Rules.{rules}
-use lib.Count.{count_trailing_zeros, trailing_le}
+use lib.Count.{count_trailing_zeros}
 use Rattle.parity.specs.declared.Parity.{Parity}
 use Rattle.parity.specs.Columns.{Lowest, LowestIs}
 use Rattle.parity.specs.View.{val}
 use Rattle.parity.proofs.Laws as Laws
 use Rattle.parity.proofs.Words.{low-trailing, high-trailing}
 use Rattle.parity.proofs.Parity.lowest.Goals as goal
-
-pub overflow_add-result : goal.overflow_add-result
-overflow_add-result c = omega (arith, trailing_le 64 c.args.self.hi)
 
 -- the record, from the exact number
 lowest-is : (p : Parity) (r : ℕ) → p.hi < 2 ^ 64 → p.lo < 2 ^ 64 → r ≡ count_trailing_zeros 128 (val p) → LowestIs (val p) r
