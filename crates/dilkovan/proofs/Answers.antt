@@ -9,7 +9,7 @@ use Rattle.rules.specs.Limits.{max_gates}
 use Rattle.rules.specs.Gate.{Gate}
 use Rattle.rules.specs.Numbers.{gates_of}
 use Rattle.rules.specs.Refusal.{Refusal, Verdict, accepted, refused, verdict}
-use Rattle.rules.specs.Scan.{Result}
+use Rattle.rules.specs.Scan as Scan
 use Rattle.rules.specs.Pass as Paper
 use Rattle.rules.proofs.Accepting.{place_of, verdict-few}
 use Rattle.cnot_min.specs.Minimizing.{Minimizes}
@@ -22,7 +22,7 @@ unfoldable pub place_in : Paper.Answer → ℕ
 place_in (Paper.refusal r) = r.place
 place_in (Paper.done c) = 0
 
-place_is : (v : Verdict) (gs : List Gate) (new : Result) (out : List ℤ) (terms steps : List ℕ) → place_in (Paper.after_as v gs new out terms steps).answer ≡ place_of v
+place_is : (v : Verdict) (gs : List Gate) (new : Scan.Result) (out : List ℤ) (terms steps : List ℕ) → place_in (Paper.after_as v gs new out terms steps).answer ≡ place_of v
 unfolding place_in
 place_is accepted gs new out terms steps = refl
 place_is (refused r) gs new out terms steps = refl

@@ -33,6 +33,7 @@ use spelling::ANSWER_BYTES;
 use trace::TRACE_BYTES;
 
 // The refusal's field * 2^48 + its number * 2^32 + its place.
+// Stays: C takes one number.
 fn code(r: Refusal) -> u64
     requires { r.place < 2 ^ 32 }
     ensures code { result ≡ coded (Paper.refusal (refusal_of r)) }
@@ -138,6 +139,7 @@ pub extern "C" fn dilkovan_alike(first: &[i32], second: &[i32], wires: usize) ->
 }
 
 // What is said of a text: how many bytes were printed, and 1 for a refusal.
+// Stays: C takes a number, and the length in a room.
 fn hand(said: Said, length: &mut usize) -> u64
     ensures told { result ≡ cond said.refused 1 0 }
     ensures size { length.new ≡ said.length }

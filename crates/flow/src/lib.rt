@@ -65,6 +65,7 @@ fn read_up<R: Read>(reader: &mut R, input: &mut [u8], from: usize, n: usize) -> 
     ensures done { IfOk result (λ to. to < n → n ≤ length input.old → IsAtEnd (R.remaining reader.new)) }
     ensures err { OnErr result (length input.new ≡ length input.old) }
 {
+    // Stays: std's `read_exact` reads no further than it is asked, and fails where the input ends.
     let mut end = from;
     while end < n {
         let next = read_on(reader, &mut *input, end)?;

@@ -34,6 +34,7 @@ pub fn read_full<R: Read>(reader: &mut R, buffer: &mut [u8]) -> io::Result<usize
     ensures end { IfOk result (λ n. n < length buffer.new → IsAtEnd (R.remaining reader.new)) }
     ensures err { OnErr result ((n : ℕ) × (n ≤ length buffer.new) × Consumes (R.remaining reader.old) (R.remaining reader.new) (take n buffer.new)) }
 {
+    // Stays: std's `read_exact` fails where the input ends, and says little of what came.
     let mut done = 0;
     while done < buffer.len() {
         let n = read_some(reader, &mut buffer[done..])?;
