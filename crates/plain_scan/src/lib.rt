@@ -4,7 +4,7 @@
 ghost use Rattle.rules.specs.Pass.{writer_of};
 ghost use Rattle.plan.specs.View.{view};
 ghost use Rattle.scan.specs.Scanning.{Closable, Ready, Advances, Scannable, Scans};
-ghost use Rattle.plain_scan.specs.Sparing.{Sized, Roomy, Spared, Closes};
+ghost use Rattle.plain_scan.specs.Sparing.{Sized, Spared, Closes};
 
 use block::Block;
 use flush::STACK;
@@ -33,12 +33,12 @@ fn close(
     nodes: &mut [Slot; STACK],
     held: &mut [Parity; MAX_COLUMNS],
     right: &mut [Parity; MAX_COLUMNS],
-    adds: &mut [u32],
+    adds: &mut [u32; ADDITIONS],
     whole: &mut [i32],
     plan: Plan,
 ) -> Kept
     requires closable { Closable list.now start end block out.old m table.old names.now rows.now room.old }
-    requires spared { Spared list.now block adds.old whole.old }
+    requires spared { Spared list.now block whole.old }
     ensures { Closes (writer_of (view plan)) list.now start end out.old m out.new table.new result }
 {
     let from = GATE_WIDTH * start;
@@ -71,7 +71,7 @@ fn piece(
     nodes: &mut [Slot; STACK],
     held: &mut [Parity; MAX_COLUMNS],
     right: &mut [Parity; MAX_COLUMNS],
-    adds: &mut [u32],
+    adds: &mut [u32; ADDITIONS],
     out: &mut [i32],
     room: &mut [u64],
     steps: &mut [u32],
@@ -79,7 +79,7 @@ fn piece(
     plan: Plan,
 ) -> Tally
     requires ready { Ready (writer_of (view plan)) (view plan) list.now s table.old out.old room.old steps.old }
-    requires roomy { Roomy (view plan) list.now adds.old whole.old }
+    requires sized { Sized (view plan) list.now whole.old }
     ensures { Advances (writer_of (view plan)) (view plan) list.now s result out.new table.new }
 {
     let most = scan::heads_in(steps.len());

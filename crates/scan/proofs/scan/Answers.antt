@@ -1,16 +1,14 @@
 -- `scan::scan` meets its contract: what stands in the output, with what is made of the rest, is what is made of the list.
-use mathlib.Core.Path.{refl, sym, ap, ◌∙◌}
+use mathlib.Core.Path.{refl, ◌∙◌}
 use native.Mathlib.Omega.{arith}
 use Rattle.terms.proofs.Room.{room-same}
-use Rattle.scan.specs.declared.Tally.{Tally}
 use Rattle.scan.proofs.Pieces.{begins, ends}
 use Rattle.scan.proofs.scan.Goals as goal
 
 pub loop-s-init : goal.loop-s-init
 loop-s-init c =
-    let e = c.new-s.ensures in
     record {
-      stands = begins _ _ _ _ _ (ap (λ (t : Tally). t.at) e) (ap (λ (t : Tally). t.gates) e) (ap (λ (t : Tally). t.blocks) e) (ap (λ (t : Tally). t.replaced) e);
+      stands = begins _ _ _ _ _ c.new-s.ensures;
       clear = c.requires.clear.clear;
       table_is = refl;
       out-is = refl;
