@@ -22,6 +22,7 @@ use Rattle.qasm.specs.declared.Wrong.{Wrong}
 use Rattle.qasm.specs.declared.Wrong.TheVariants.{Line, Many, Large}
 use Rattle.qasm.proofs.Trips.{Spellable, import-export}
 use Rattle.import.specs.Answer.{head_for, read_as, answer_by}
+use Rattle.spelling.specs.declared.Form.TheVariants.{Six}
 use Rattle.import.specs.Clauses.{reason_of, right, Held}
 use Rattle.import.proofs.Lines.{line_of, text-line}
 
@@ -47,7 +48,7 @@ pub imported-exact : (w b : ℕ) (ns : List ℤ) → Spellable list_gates w b ns
 imported-exact w b ns s = right-exact (head_for w b) ns s.whole (omega (arith, s.few)) s.wires-fit s.bits_fit s.right
 
 pub held : (text : List ℕ) (room room' : List ℤ) (x : ℕ × ℕ × ℕ) → length text ≤ list_bytes → ReadsQasm text list_gates room room' (Ok x)
-    → Held text room' (record { wires = x.0; bits = x.1; qubits = 128; terms = 512; form = 6 }) x.2
+    → Held text room' (record { wires = x.0; bits = x.1; qubits = 128; terms = 512; form = Six }) x.2
 held text room room' x short t =
     let n : ℕ = x.2 in
     let size : (length (met list_gates text) ≡ width * n) × (n ≤ list_gates) = t.counts in

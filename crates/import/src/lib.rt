@@ -10,17 +10,13 @@ ghost use Rattle.import.specs.Clauses.{reason_of, right, Takes, Imports};
 
 use gate::{Fault, Refusal};
 use qasm::Wrong;
-use rules::GATE_WIDTH;
 use saying::{Program, Reason, Said};
-use spelling::{ANSWER_BYTES, Head, LIST_BYTES, LIST_GATES};
+use spelling::{ANSWER_BYTES, Form, Head, LIST_BYTES, LIST_GATES};
 
 // The caps of a list that comes from a laboratory.
 pub const QUBIT_CAP: u32 = 128;
 
 pub const TERM_CAP: u32 = 512;
-
-// `head 5` with 6: each gate shows its line.
-const LINED: u32 = GATE_WIDTH as u32;
 
 // Why a laboratory's text isn't read.
 fn reason_of(w: Wrong) -> Reason
@@ -46,12 +42,13 @@ pub fn take(text: &[u8], numbers: &mut [i32]) -> Result<(Head, usize), Reason>
     }
     match qasm::read_qasm(text, LIST_GATES, numbers) {
         Ok((wires, bits, n)) => {
+            // `head 5` with 6: each gate shows its line
             let head = Head {
                 wires,
                 bits,
                 qubits: QUBIT_CAP,
                 terms: TERM_CAP,
-                form: LINED,
+                form: Form::Six,
             };
             Ok((head, n))
         }

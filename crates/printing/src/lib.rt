@@ -5,11 +5,12 @@ ghost use Rattle.std.specs.Prelude.{◌≡◌, ◌+◌, ◌*◌, ◌/◌, ◌≤
 ghost use Rattle.rules.specs.Limits.{width};
 ghost use Rattle.text.specs.Clauses.{Prints, line_size, named_size, number_size};
 ghost use Rattle.spelling.specs.Texts as Texts;
+ghost use Rattle.spelling.specs.Forms.{form_of};
 ghost use Rattle.spelling.specs.Heads.{head_of};
 ghost use Rattle.printing.specs.Clauses.{section_size, head_size, gates_size, list_size, result_size, Section, Gates, Listable, Printable};
 
 use rules::GATE_WIDTH;
-use spelling::Head;
+use spelling::{Form, Head};
 
 // Stays: the room is lent from C, and what stands in it behind the text stays as it was, so that a place is handed on.
 
@@ -49,11 +50,11 @@ fn write_row(out: &mut [u8], at: usize, row: &[i32]) -> usize
 }
 
 // A line for each gate, of the numbers that the form shows.
-fn write_rows(out: &mut [u8], at: usize, numbers: &[i32], form: u32) -> usize
+fn write_rows(out: &mut [u8], at: usize, numbers: &[i32], form: Form) -> usize
     requires { at + number_size * length numbers.now ≤ length out.old }
-    ensures { Prints (number_size * length numbers.now) (Texts.rows_text (Texts.form_of form) (length numbers.now / width) numbers.now) out.old at out.new result }
+    ensures { Prints (number_size * length numbers.now) (Texts.rows_text (form_of form) (length numbers.now / width) numbers.now) out.old at out.new result }
 {
-    let shown = spelling::per_gate(form);
+    let shown = form.per_gate();
     let (rows, _) = numbers.as_chunks::<GATE_WIDTH>();
     let mut next = at;
     for row in rows {
@@ -62,9 +63,9 @@ fn write_rows(out: &mut [u8], at: usize, numbers: &[i32], form: u32) -> usize
     next
 }
 
-fn write_gates(out: &mut [u8], at: usize, numbers: &[i32], form: u32) -> usize
+fn write_gates(out: &mut [u8], at: usize, numbers: &[i32], form: Form) -> usize
     requires { Gates numbers.now out.old at }
-    ensures { Prints (gates_size (length numbers.now)) (Texts.gates_text (Texts.form_of form) numbers.now) out.old at out.new result }
+    ensures { Prints (gates_size (length numbers.now)) (Texts.gates_text (form_of form) numbers.now) out.old at out.new result }
 {
     let count = [(numbers.len() / GATE_WIDTH) as u32];
     let next = text::write_named(&mut *out, at, b"gates", &count);
@@ -76,8 +77,8 @@ fn write_head(out: &mut [u8], at: usize, head: Head) -> usize
     requires { at + head_size ≤ length out.old }
     ensures { Prints head_size (Texts.head_text (head_of head)) out.old at out.new result }
 {
-    let shown = spelling::per_gate(head.form) as u32;
-    let n = spelling::head_numbers(head.form);
+    let shown = head.form.per_gate() as u32;
+    let n = head.form.head_numbers();
     let values = [head.wires, head.bits, head.qubits, head.terms, shown];
     write_section(out, at, b"head", &values[..n])
 }

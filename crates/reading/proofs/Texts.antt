@@ -15,7 +15,8 @@ use Rattle.rules.specs.Limits.{width}
 use Rattle.rules.specs.Pass.{over}
 use Rattle.text.specs.Reading.{Found, none, found, onward, count_line}
 use Rattle.spelling.specs.Lines.{bad, good}
-use Rattle.spelling.specs.Texts.{Form, form_of, gates_word}
+use Rattle.spelling.specs.Texts.{Form, gates_word}
+use Rattle.spelling.specs.Forms.{form_of}
 use Rattle.spelling.specs.Reading.{gate_row, Rows, rows, list, head_at, gathered, list_at, ending, read_text}
 use Rattle.spelling.specs.Heads.{head_of}
 use Rattle.spelling.specs.declared.Head as Code

@@ -1,5 +1,5 @@
 -- What the crate's functions ask and say.
-use Rattle.std.specs.Prelude.{◌≡◌, Option, Result, Ok, Err, cond, List, [], ℕ, suc, ◌*◌, ◌^◌, ◌≤◌, ◌<◌, ltb, ℤ, length, take}
+use Rattle.std.specs.Prelude.{◌≡◌, Option, None, Some, Result, Ok, Err, cond, List, [], ℕ, suc, ◌*◌, ◌^◌, ◌≤◌, ◌<◌, ltb, ℤ, length, take}
 use Rattle.std.specs.Borrow.{Bor}
 use Rattle.rules.specs.Limits.{width}
 use Rattle.rules.specs.Pass.{over}
@@ -7,7 +7,9 @@ use Rattle.text.specs.Reading.{Found, none, found, count_line}
 use Rattle.text.specs.Clauses.{Leaves}
 use Rattle.spelling.specs.Lines.{Lines, bad, good}
 use Rattle.spelling.specs.Texts as Texts
-use Rattle.spelling.specs.Texts.{Form, gates_word}
+use Rattle.spelling.specs.Texts.{gates_word}
+use Rattle.spelling.specs.Forms.{form_of}
+use Rattle.spelling.specs.declared.Form.{Form}
 use Rattle.spelling.specs.Reading as Spec
 use Rattle.spelling.specs.Heads.{head_of}
 use Rattle.spelling.specs.declared.Head.{Head}
@@ -22,6 +24,11 @@ abbrev pub ReadsLines : {A B : Type 0} → (A → B) → Result (A × ℕ × Bor
 ReadsLines view (Ok x) meant = meant ≡ good (view x.0) x.1 x.2.now
 ReadsLines view (Err (Line k)) meant = meant ≡ bad k
 ReadsLines view (Err (Many k)) meant = ⊥
+
+-- the form whose number was read
+abbrev pub ReadsForm : Option (Form × Bor (List ℕ)) → Found ℕ → Type 0
+ReadsForm None meant = meant ≡ none
+ReadsForm (Some x) meant = (n : ℕ) × (meant ≡ found n x.1.now) × (form_of x.0 ≡ Texts.form_of n)
 
 -- a line of numbers: they stand first in the room, up to the first that is not right
 pub record ReadsRow (result : Option (Bor (List ℕ))) (meant : Spec.Row) (room room' : List ℤ) : Type 0 where
@@ -47,7 +54,7 @@ pub record Legible (line most : ℕ) (room : List ℤ) : Type 0 where
   pub holds : width * most ≤ length room
 
 -- the numbers read on the way: all of the gates', or those before the first that is not right
-abbrev pub met_count : ℕ → Form → ℕ → Found ℕ → List ℤ
+abbrev pub met_count : ℕ → Texts.Form → ℕ → Found ℕ → List ℤ
 met_count most f k none = []
 met_count most f k (found n left) = let gates = Spec.rows f n (suc k) left in cond (ltb most n) [] gates.numbers
 

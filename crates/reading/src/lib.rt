@@ -4,13 +4,13 @@
 ghost use Rattle.std.specs.Prelude.{◌≡◌, ◌+◌, ◌*◌, ◌^◌, ◌≤◌, ◌<◌, length, IfOk};
 ghost use Rattle.rules.specs.Limits.{width};
 ghost use Rattle.text.specs.Clauses.{Reads};
-ghost use Rattle.spelling.specs.Texts.{form_of};
+ghost use Rattle.spelling.specs.Forms.{form_of};
 ghost use Rattle.spelling.specs.Reading as Spec;
 ghost use Rattle.spelling.specs.Heads.{head_of};
-ghost use Rattle.reading.specs.Clauses.{ReadsLines, ReadsRow, ReadsRows, Legible, ReadsList, ReadsText};
+ghost use Rattle.reading.specs.Clauses.{ReadsForm, ReadsLines, ReadsRow, ReadsRows, Legible, ReadsList, ReadsText};
 
 use rules::GATE_WIDTH;
-use spelling::Head;
+use spelling::{Form, Head};
 
 // Why a text isn't read: a line is malformed, missing or surplus, and its number; or there are too many gates, and the line of `gates`.
 #[derive(Clone, Copy, Debug, PartialEq, Eq)]
@@ -43,17 +43,17 @@ fn read_first(text: &[u8]) -> Option<(u32, &[u8])>
 
 // The form of a head of n numbers: that of `head 4` has no line; that of `head 5` is its fifth number.
 #[tactic(auto, unfolding(spelling::specs::Reading::form_line))]
-fn read_form(text: &[u8], n: u32) -> Option<(u32, &[u8])>
-    ensures { Reads result (Spec.form_line n text.now) }
+fn read_form(text: &[u8], n: u32) -> Option<(Form, &[u8])>
+    ensures { ReadsForm result (Spec.form_line n text.now) }
 {
     if n == 4 {
-        return Some((n, text));
+        return Some((Form::Four, text));
     }
     let (value, rest) = text::read_line(text)?;
-    if value == 5 || value == 6 {
-        Some((value, rest))
-    } else {
-        None
+    match value {
+        5 => Some((Form::Five, rest)),
+        6 => Some((Form::Six, rest)),
+        _ => None,
     }
 }
 
@@ -95,11 +95,11 @@ fn read_row<'a>(text: &'a [u8], numbers: &mut [i32]) -> Option<&'a [u8]>
 }
 
 // A gate's line. Where it shows five numbers, the gate's line number is 0.
-fn read_gate<'a>(text: &'a [u8], gate: &mut [i32], form: u32) -> Option<&'a [u8]>
+fn read_gate<'a>(text: &'a [u8], gate: &mut [i32], form: Form) -> Option<&'a [u8]>
     requires { length gate.old ≡ width }
     ensures { ReadsRow result (Spec.gate_row (form_of form) text.now) gate.old gate.new }
 {
-    let shown = spelling::per_gate(form);
+    let shown = form.per_gate();
     let rest = read_row(text, &mut gate[..shown])?;
     gate[shown..].fill(0);
     Some(rest)
@@ -111,7 +111,7 @@ fn read_rows<'a>(
     line: usize,
     n: usize,
     numbers: &mut [i32],
-    form: u32,
+    form: Form,
 ) -> Result<(usize, &'a [u8]), Wrong>
     requires line_in_bounds { line ≤ 2 ^ 34 }
     requires n_in_bounds { width * n ≤ length numbers.old }

@@ -3,4 +3,5 @@ pub mod Sizes
 pub mod Lines
 pub mod Texts
 pub mod Reading
+pub mod Forms
 pub mod Heads

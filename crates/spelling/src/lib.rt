@@ -6,6 +6,7 @@ ghost use Rattle.std.specs.Prelude.{◌≡◌, cond, ◌+◌, ◌-◌, ◌<◌, 
 ghost use Rattle.text.specs.Bytes.{lf, blank};
 ghost use Rattle.spelling.specs.Sizes as Sizes;
 ghost use Rattle.spelling.specs.Texts as Texts;
+ghost use Rattle.spelling.specs.Forms.{form_of};
 
 use rules::GATE_WIDTH;
 
@@ -16,32 +17,44 @@ pub const LIST_GATES: usize = 896;
 
 pub const ANSWER_BYTES: usize = 12 * (GATE_WIDTH * LIST_GATES) + 256;
 
-// As read: neither cap is clamped. The form: 4 for `head 4`, or the fifth number of `head 5`; below 4 is as 4, above 6 as 6.
+// How a list is spelled: `head 4`; `head 5` whose fifth number is 5; `head 5` whose fifth number is 6.
+#[derive(Clone, Copy, Debug, PartialEq, Eq)]
+pub enum Form {
+    Four,
+    Five,
+    Six,
+}
+
+impl Form {
+    // How many numbers the head has.
+    pub fn head_numbers(self) -> usize
+        ensures { result ≡ 4 + length (Texts.fifth (form_of self)) }
+    {
+        match self {
+            Form::Four => 4,
+            Form::Five | Form::Six => 5,
+        }
+    }
+
+    // How many of a gate's numbers its line shows.
+    pub fn per_gate(self) -> usize
+        ensures { result ≡ Texts.per_gate (form_of self) }
+    {
+        match self {
+            Form::Four | Form::Five => GATE_WIDTH - 1,
+            Form::Six => GATE_WIDTH,
+        }
+    }
+}
+
+// As read: neither cap is clamped.
 #[derive(Clone, Copy)]
 pub struct Head {
     pub wires: u32,
     pub bits: u32,
     pub qubits: u32,
     pub terms: u32,
-    pub form: u32,
-}
-
-// How many numbers the head has.
-pub fn head_numbers(form: u32) -> usize
-    ensures { result ≡ 4 + length (Texts.fifth (Texts.form_of form)) }
-{
-    if form < 5 { 4 } else { 5 }
-}
-
-// How many of a gate's numbers its line shows.
-pub fn per_gate(form: u32) -> usize
-    ensures { result ≡ Texts.per_gate (Texts.form_of form) }
-{
-    if form < GATE_WIDTH as u32 {
-        GATE_WIDTH - 1
-    } else {
-        GATE_WIDTH
-    }
+    pub form: Form,
 }
 
 // What ends number k of a line of n.

@@ -4,7 +4,8 @@ use mathlib.Core.List.{[], ◌∷◌}
 use native.Mathlib.Omega.{arith}
 use borrow.Author.Rules.{rules}
 use lib.ListN.{take}
-use Rattle.spelling.specs.Texts.{form_of, head_numbers, head_text}
+use Rattle.spelling.specs.Texts.{head_numbers, head_text}
+use Rattle.spelling.specs.Forms.{form_of}
 use Rattle.spelling.specs.Heads.{head_of}
 use Rattle.spelling.proofs.Forms.{per-gate-le}
 use Rattle.printing.proofs.Rows.{head-taken, fifth-few}

@@ -10,7 +10,8 @@ use lib.Seq.{length-take-le, take-take}
 use Rattle.rules.specs.Limits.{width}
 use Rattle.text.specs.Clauses.{Prints, number_size}
 use Rattle.text.proofs.Begun.{begun-none, begun_more, begun_all}
-use Rattle.spelling.specs.Texts.{row_text, Form, per_gate, form_of}
+use Rattle.spelling.specs.Texts.{row_text, Form, per_gate}
+use Rattle.spelling.specs.Forms.{form_of}
 use Rattle.spelling.proofs.Forms.{per-gate-le}
 use Rattle.spelling.proofs.Chunks.{chunk_at}
 use Rattle.printing.proofs.Rows.{rows_more, rows_none}

@@ -1,6 +1,7 @@
 -- `reading::read_gate` meets its contract: the numbers that its line shows, and 0 where one isn't shown.
 use Rattle.std.proofs.Common.{◌≤◌, length-take-le, length, take, refl, arith}
-use Rattle.spelling.specs.Texts.{per_gate, form_of}
+use Rattle.spelling.specs.Texts.{per_gate}
+use Rattle.spelling.specs.Forms.{form_of}
 use Rattle.spelling.specs.Reading.{row}
 use Rattle.spelling.proofs.Forms.{per-gate-le}
 use Rattle.reading.specs.Clauses.{ReadsRow}

@@ -13,4 +13,4 @@ returns-clause-lines c =
     let qubits = rw c.in_ok-qubits.ensures.ok_part at c.read_line-3.ensures in
     let terms = rw c.in_ok-terms.ensures.ok_part at c.read_line-4.ensures in
     let form = rw c.in_ok-form.ensures.ok_part at c.read_form.ensures in
-    rw (n, wires, bits, qubits, terms, form, ahead c.args.line c.in_ok-n.n c.args.text.now c.in_ok-n.rest.now n) refl
+    rw (n, wires, bits, qubits, terms, form.1, ← form.2, ahead c.args.line c.in_ok-n.n c.args.text.now c.in_ok-n.rest.now n) refl

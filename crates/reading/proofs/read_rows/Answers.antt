@@ -3,7 +3,7 @@ use Rattle.std.proofs.Common.{◌≡◌, ◌+◌, ◌*◌, sym, ap, ◌∙◌, a
 use Rattle.std.proofs.lemmas.Result.{err_from_is_err_and}
 use Rattle.rules.specs.Limits.{width}
 use Rattle.text.proofs.Pasting.{pasted-none}
-use Rattle.spelling.specs.Texts.{form_of}
+use Rattle.spelling.specs.Forms.{form_of}
 use Rattle.spelling.specs.Reading.{Rows, rows, gate_row}
 use Rattle.reading.specs.declared.Wrong.TheVariants.{Line}
 use Rattle.reading.proofs.Gates.{put-back, err_or, gate-sized, rows-stop, rows_end, rows-once, pasted-first}

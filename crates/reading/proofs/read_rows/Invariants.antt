@@ -2,7 +2,7 @@
 use Rattle.std.proofs.Common.{◌≡◌, ◌+◌, ◌-◌, ◌*◌}
 use Rattle.rules.specs.Limits.{width}
 use Rattle.text.specs.Bytes.{pasted}
-use Rattle.spelling.specs.Texts.{form_of}
+use Rattle.spelling.specs.Forms.{form_of}
 use Rattle.spelling.specs.Reading.{rows}
 use Rattle.reading.proofs.read_rows.Given as goal
 
