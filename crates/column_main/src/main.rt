@@ -59,15 +59,14 @@ fn chosen(terms: &[u64], set: u64, cands: u64) -> Option<usize>
 }
 
 // The parities of a set as terms of turn 0, three numbers each; how many there are.
-fn fill(terms: &mut [u64; 48], set: u64) -> usize
+fn fill(terms: &mut [u64; 48], set: u16) -> usize
     ensures { result ≤ 16 }
 {
-    let mut n = 0;
-    for v in 0..16 {
-        terms[3 * n] = v;
-        n += ((set >> v) % 2) as usize;
+    let members = (0..16).filter(|v| (set >> *v) % 2 == 1);
+    for (term, v) in terms.chunks_exact_mut(3).zip(members) {
+        term[0] = v;
     }
-    n
+    set.count_ones() as usize
 }
 
 // The choices of a set with all candidates. No count can wrap, and so written none needs a proof that it doesn't.
@@ -81,9 +80,9 @@ fn tally(terms: &[u64], set: u64, counts: &mut [u64; 5]) {
 fn main(rt: HostRuntime) -> io::Result<()> {
     let mut terms = [0u64; 48];
     let mut counts = [[0u64; 5]; 17];
-    for set in 0..65536 {
+    for set in 0..=u16::MAX {
         let size = fill(&mut terms, set);
-        tally(&terms[..3 * size], set, &mut counts[size]);
+        tally(&terms[..3 * size], u64::from(set), &mut counts[size]);
     }
     for (size, line) in counts.iter().enumerate() {
         print!(rt; "{size}")?;

@@ -51,16 +51,8 @@ fn fill<R: Read>(reader: &mut R, bytes: &mut [u8]) -> io::Result<bool> {
 
 // Reads past n bytes, if so many come.
 fn skip<R: Read>(reader: &mut R, n: usize) -> io::Result<bool> {
-    let mut chunk = [0u8; 4096];
-    let mut left = n;
-    while 0 < left {
-        let k = left.min(4096);
-        if !fill(reader, &mut chunk[..k])? {
-            return Ok(false);
-        }
-        left -= k;
-    }
-    Ok(true)
+    let past = io::copy(&mut reader.take(n as u64), &mut io::sink())?;
+    Ok(past == n as u64)
 }
 
 // What is printed goes behind what waits, its length first.
