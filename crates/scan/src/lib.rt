@@ -343,14 +343,5 @@ pub fn scan(
     ensures { Scans (writer_of (view plan)) (view plan) list.now out.new table.new result }
 {
     let mut rooms = Rooms::new();
-    scan_by(
-        list,
-        table,
-        out,
-        room,
-        steps,
-        &mut [],
-        plan,
-        &mut rooms,
-    )
+    scan_by(list, table, out, room, steps, &mut [], plan, &mut rooms)
 }
