@@ -1,12 +1,12 @@
--- `plain_scan::scan` meets its contract: what stands in the output, with what is made of the rest, is what is made of the list.
+-- `scan::scan_by` meets its contract: what stands in the output, with what is made of the rest, is what is made of the list.
 use mathlib.Core.Path.{refl, ◌∙◌}
 use native.Mathlib.Omega.{arith}
 use Rattle.terms.proofs.Room.{room-same}
 use Rattle.scan.proofs.Pieces.{begins, ends}
-use Rattle.plain_scan.proofs.scan.Goals as goal
+use Rattle.scan.proofs.scan_by.Goals as goal
 
 pub loop-s-init : goal.loop-s-init
-loop-s-init c =
+loop-s-init g c =
     record {
       stands = begins _ _ _ _ _ c.new-s.ensures;
       clear = c.requires.scannable.clear.clear;
@@ -18,7 +18,7 @@ loop-s-init c =
     }
 
 pub piece-s-requires : goal.piece-s-requires
-piece-s-requires c =
+piece-s-requires g c =
     let p = c.requires.scannable in
     let l = c.loop-s in
     let i = l.invariant in
@@ -32,8 +32,8 @@ piece-s-requires c =
         more = omega (arith, c.loop-s-test.true);
         fits = i.out-is ∙ p.fits;
       };
-      sized = record { few = c.requires.sized.few; narrow = c.requires.sized.narrow; long = omega (arith, i.whole_is, c.requires.sized.long) };
+      suits = record { few = c.requires.suits.few; narrow = c.requires.suits.narrow; long = omega (arith, i.whole_is, c.requires.suits.long) };
     }
 
 pub returns : goal.returns
-returns c = let i = c.loop-s.invariant in ends _ _ _ _ _ _ i.stands i.clear (omega (arith, c.loop-s-test.false))
+returns g c = let i = c.loop-s.invariant in ends _ _ _ _ _ _ i.stands i.clear (omega (arith, c.loop-s-test.false))
