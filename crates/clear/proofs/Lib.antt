@@ -1,2 +1,0 @@
--- Laws that belong to no one function.
-pub mod Zeros
