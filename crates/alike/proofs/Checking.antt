@@ -1,29 +1,35 @@
 -- The check of one list: what a gate that passes it has, and the gates one by one.
-use mathlib.Core.Path.{◌≡◌, refl, sym, ◌∙◌}
-use mathlib.Core.Logic.{◌≢◌}
+use mathlib.Core.Path.{◌≡◌, refl, sym, ap, ◌∙◌}
 use mathlib.Core.Bool.{Bool, true, false, not, ◌&&◌, ◌||◌, cond}
 use mathlib.Core.List.{List, [], ◌∷◌}
 use Prim.Native.Nat.{ℕ, zero, suc, ◌+◌, ◌-◌, ◌/◌, ◌%◌, ◌≤◌, ◌<◌}
 use native.Mathlib.Nat.{not-suc-le-zero, le_of_suc-le-suc}
 use native.Mathlib.Numerals.{add-one}
 use native.Mathlib.Omega.{arith}
-use borrow.Author.Tests.{eqb-true, eq-eqb, ne_eqb, leb-true, ltb-false, not-false}
+use borrow.Author.Tests.{eqb-true, eq-eqb, leb-true, ltb-false, not-false}
 use lib.Dec.{eqb, leb, ltb}
 use lib.IntN.{ℤ}
 use lib.ListN.{length}
 use Rattle.rules.specs.Limits.{width, last_code, last_fragment, max_gates, max_wires, max_columns}
 use Rattle.rules.specs.Gate.{from, second, bitted, third, fragment}
 use Rattle.rules.specs.Numbers.{nat_of, inside, negative, field, gate_at}
-use Rattle.rules.specs.Refusal.{Refusal, Fault, Verdict, accepted, refused, refuse, tell, none, first_number, ruled, unused, apart, fault_of, fault_at}
+use Rattle.rules.specs.Refusal.{Refusal, Fault, Verdict, accepted, refused, tell, none, first_number, ruled, unused, apart, fault_of, fault_at}
 use Rattle.rules.proofs.Bits.{split, and_right}
+use Rattle.rules.proofs.Accepting.{first-map}
+use Rattle.gate.specs.declared.Fault as Code
+use Rattle.gate.specs.declared.Fault.TheVariants.{Length, Gates, Limits, CompareLimits}
+use Rattle.gate.specs.Faults.{tells}
+use Rattle.gate.specs.Verdicts.{refusal_of}
+use Rattle.gate.specs.Tests.{all_told}
+use Rattle.gate.proofs.First.{ruled-fault, ruled-none}
 use Rattle.compare.specs.View.{Fine}
-use Rattle.alike.specs.Asking.{asked_at, whole_asked, asked_from, asked}
+use Rattle.alike.specs.Asking.{passes_nine, asked_at, whole_asked, asked_from, asked}
 
 -- ---- one gate
 
--- the number, as the code finds it: 16 where no test up to 9 fails and the code is opaque
-abbrev pub opaque_first : Bool → ℕ → ℕ
-opaque_first o n = cond ((eqb n 0 || eqb n 18) && o) 16 n
+-- the fault, as the code finds it: 16 where no test up to 9 fails and the code is opaque
+abbrev pub settled : Bool → Fault → Fault
+settled o f = cond (passes_nine f.number && o) (tell 16 0) f
 
 -- seven tests, then those of any list; and those of one of two
 abbrev others : Bool → Bool → Bool → Bool → Bool → Bool → Bool → List (Bool × Fault) → List (Bool × Fault)
@@ -43,22 +49,20 @@ any b1 b2 b3 b4 b5 b6 b7 g = first_number (others b1 b2 b3 b4 b5 b6 b7 ((g, tell
 abbrev paired : Bool → Bool → Bool → Bool → Bool → Bool → Bool → Bool → Bool → Fault
 paired b1 b2 b3 b4 b5 b6 b7 o g = first_number (others b1 b2 b3 b4 b5 b6 b7 ((false, tell 18 0) ∷ (o, tell 16 0) ∷ (g, tell 18 0) ∷ [])) none
 
-seven : (b1 b2 b3 b4 b5 b6 b7 o g : Bool)
-    → ((paired b1 b2 b3 b4 b5 b6 b7 o g).number ≡ opaque_first o (any b1 b2 b3 b4 b5 b6 b7 g).number) × ((paired b1 b2 b3 b4 b5 b6 b7 o g).field ≡ (any b1 b2 b3 b4 b5 b6 b7 g).field)
-seven true b2 b3 b4 b5 b6 b7 o g = (refl, refl)
-seven false true b3 b4 b5 b6 b7 o g = (refl, refl)
-seven false false true b4 b5 b6 b7 o g = (refl, refl)
-seven false false false true b5 b6 b7 o g = (refl, refl)
-seven false false false false true b6 b7 o g = (refl, refl)
-seven false false false false false true b7 o g = (refl, refl)
-seven false false false false false false true o g = (refl, refl)
-seven false false false false false false false true true = (refl, refl)
-seven false false false false false false false true false = (refl, refl)
-seven false false false false false false false false true = (refl, refl)
-seven false false false false false false false false false = (refl, refl)
+seven : (b1 b2 b3 b4 b5 b6 b7 o g : Bool) → paired b1 b2 b3 b4 b5 b6 b7 o g ≡ settled o (any b1 b2 b3 b4 b5 b6 b7 g)
+seven true b2 b3 b4 b5 b6 b7 o g = refl
+seven false true b3 b4 b5 b6 b7 o g = refl
+seven false false true b4 b5 b6 b7 o g = refl
+seven false false false true b5 b6 b7 o g = refl
+seven false false false false true b6 b7 o g = refl
+seven false false false false false true b7 o g = refl
+seven false false false false false false true o g = refl
+seven false false false false false false false true true = refl
+seven false false false false false false false true false = refl
+seven false false false false false false false false true = refl
+seven false false false false false false false false false = refl
 
-pub asked_is : (l : List ℤ) (w i : ℕ)
-    → ((asked_at l w i).number ≡ opaque_first (not (fragment (nat_of (field l i 0)))) (fault_at l w zero i).number) × ((asked_at l w i).field ≡ (fault_at l w zero i).field)
+pub asked_is : (l : List ℤ) (w i : ℕ) → asked_at l w i ≡ settled (not (fragment (nat_of (field l i 0)))) (fault_at l w zero i)
 unfolding asked_at fault_at fault_of
 asked_is l w i =
     let c : ℕ = nat_of (field l i 0) in
@@ -69,49 +73,50 @@ asked_is l w i =
     seven (not (from 1 last_code c)) (not (unused c y z t)) (not (inside x w)) (second c && not (inside y w)) (bitted c && not (inside y zero)) (third c && not (inside z w)) (not (apart c x y z)) (not (fragment c)) (negative (field l i 5))
 
 -- of what the code reads
-pub asked_by : (l : List ℤ) (w i c n r : ℕ) (o : Bool) → c ≡ nat_of (field l i 0) → n ≡ (fault_at l w zero i).number → ((eqb n 0 || eqb n 18) && not (leb 1 c && leb c 9)) ≡ o → r ≡ cond o 16 n
-    → r ≡ (asked_at l w i).number
-asked_by l w i c n r o ec en eo er = er ∙ rw (← eo, ec, en) (sym (asked_is l w i).0)
+pub asked_by : (l : List ℤ) (w i c : ℕ) (f : Fault) (passes o : Bool) → c ≡ nat_of (field l i 0) → f ≡ fault_at l w zero i → passes ≡ passes_nine f.number
+    → (passes && not (leb 1 c && leb c 9)) ≡ o → cond o (tell 16 0) f ≡ asked_at l w i
+asked_by l w i c f passes o ec ef ep eo = rw (← eo, ep, ec, ef) (sym (asked_is l w i))
 
 -- what passes is of the fragment, and any list may have it
-plain-first : (o : Bool) (n : ℕ) → opaque_first o n ≡ 0 → (n ≡ 0) × (o ≡ false)
-plain-first true n e =
-    split (eqb n 0) (λ t. absurd (sixteen (rw t at e)))
-    (λ t. split (eqb n 18) (λ u. absurd (sixteen (rw (t, u) at e))) (λ u. absurd (mathlib.Core.Bool.false≢true (sym t ∙ eq-eqb n 0 (rw (t, u) at e)))))
+plain-first : (o : Bool) (f : Fault) → (settled o f).number ≡ 0 → (f.number ≡ 0) × (o ≡ false)
+plain-first true f e =
+    split (eqb f.number 0) (λ t. absurd (sixteen (rw t at e)))
+    (λ t. split (eqb f.number 18) (λ u. absurd (sixteen (rw (t, u) at e))) (λ u. absurd (mathlib.Core.Bool.false≢true (sym t ∙ eq-eqb f.number 0 (rw (t, u) at e)))))
   where
     sixteen : ◌≡◌ {A = ℕ} 16 0 → ⊥
     sixteen e = omega arith
-plain-first false n e = (split (eqb n 0) (λ t. eqb-true n 0 t) (λ t. split (eqb n 18) (λ u. rw (t, u) at e) (λ u. rw (t, u) at e)), refl)
+plain-first false f e = (split (eqb f.number 0) (λ t. eqb-true f.number 0 t) (λ t. split (eqb f.number 18) (λ u. rw (t, u) at e) (λ u. rw (t, u) at e)), refl)
 
 pub asked-plain : (l : List ℤ) (w i : ℕ) → (asked_at l w i).number ≡ 0 → ((fault_at l w zero i).number ≡ 0) × ((gate_at l i).code ≤ last_fragment)
 unfolding gate_at
 asked-plain l w i e =
     let c : ℕ = nat_of (field l i 0) in
-    let p = plain-first (not (fragment c)) (fault_at l w zero i).number (sym (asked_is l w i).0 ∙ e) in
+    let p = plain-first (not (fragment c)) (fault_at l w zero i) (ap (λ (f : Fault). f.number) (sym (asked_is l w i)) ∙ e) in
     (p.0, leb-true c last_fragment (and_right (leb 1 c) (leb c last_fragment) (not-false (fragment c) p.1)))
 
 -- ---- the gates one by one
 
 module _ (l : List ℤ) (w n i : ℕ) where
-  pub stops : i < n → eqb (asked_at l w i).number 0 ≡ false → asked_from l w (n - i) i ≡ refuse (asked_at l w i) i
+  pub stops : (f : Code.Fault) → i < n → tells f ≡ asked_at l w i → asked_from l w (n - i) i ≡ refused (refusal_of (record { fault = f; place = i }))
   unfolding asked_from
-  stops h e = let k : n - i ≡ suc (n - (i + 1)) = omega arith in rw (k, e)
+  stops f h e =
+      let k : n - i ≡ suc (n - (i + 1)) = omega arith in
+      rw k (sym (ruled-fault f (asked_at l w i) i (asked_from l w (n - (i + 1)) (suc i)) e))
 
-  pub goes_on : i < n → eqb (asked_at l w i).number 0 ≡ true → asked_from l w (n - i) i ≡ asked_from l w (n - (i + 1)) (i + 1)
+  pub goes_on : i < n → none ≡ asked_at l w i → asked_from l w (n - i) i ≡ asked_from l w (n - (i + 1)) (i + 1)
   unfolding asked_from
-  goes_on h e = let k : n - i ≡ suc (n - (i + 1)) = omega arith in rw (k, e, add-one i)
+  goes_on h e =
+      let k : n - i ≡ suc (n - (i + 1)) = omega arith in
+      rw (k, add-one i) (sym (ruled-none (asked_at l w i) i (asked_from l w (n - suc i) (suc i)) e))
 
   pub ends : n ≤ i → asked_from l w (n - i) i ≡ accepted
   unfolding asked_from
   ends h = let k : n - i ≡ 0 = omega arith in rw k
 
--- ---- what a fault decides
-
-pub ruled-some : (f : Fault) (p : ℕ) (v : Verdict) → f.number ≢ 0 → ruled f p v ≡ refuse f p
-ruled-some f p v h = rw (ne_eqb f.number 0 h)
-
-pub ruled-none : (f : Fault) (p : ℕ) (v : Verdict) → f.number ≡ 0 → ruled f p v ≡ v
-ruled-none f p v h = rw (eq-eqb f.number 0 h)
+-- the tests of a list as a whole, in the code's faults
+pub whole-told : (a b c d : Bool)
+    → tell (first_number ((a, 1) ∷ (b, 2) ∷ (c, 3) ∷ (d, 17) ∷ []) 0) 0 ≡ first_number (all_told ((a, Length) ∷ (b, Gates) ∷ (c, Limits) ∷ (d, CompareLimits) ∷ [])) none
+whole-told a b c d = first-map (λ (k : ℕ). tell k 0) ((a, 1) ∷ (b, 2) ∷ (c, 3) ∷ (d, 17) ∷ []) 0
 
 -- ---- a list that is accepted
 

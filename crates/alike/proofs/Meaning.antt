@@ -1,31 +1,32 @@
 -- What the answer means, for lists that are taken.
-use mathlib.Core.Path.{◌≡◌, sym, ap, ◌∙◌}
+use mathlib.Core.Path.{◌≡◌, refl, sym, ap, ◌∙◌}
 use mathlib.Core.Logic.{◌↔◌}
 use mathlib.Core.List.{List}
 use Prim.Native.Nat.{ℕ}
 use lib.IntN.{ℤ}
-use Rattle.rules.specs.Refusal.{Refusal, Verdict, accepted, refused}
+use Rattle.rules.specs.Refusal.{Verdict, accepted, refused}
+use Rattle.std.specs.Prelude.{Result}
+use Rattle.acting.specs.declared.Verdict as Code
 use Rattle.acting.specs.Alike as Question
 use Rattle.acting.specs.Alike.{AllBelow, verdict}
 use Rattle.acting.proofs.Deciding.{verdict-alike, verdict-map, verdict-flips, verdict-phase}
 use Rattle.compare.specs.View.{ops_of}
 use Rattle.compare.proofs.Saying.{fine-below}
 use Rattle.alike.specs.Answering.{Answer, refusal, says, after, answer, told, Taken, Answers}
-use Rattle.alike.specs.declared.Answer as Code
+use Rattle.alike.specs.declared.Blame.{Blame}
 use Rattle.alike.proofs.Checking.{asked-fine}
 
-pub after-taken : (k : ℕ) (v : Verdict) (rest : Answer) → v ≡ accepted → after k v rest ≡ rest
-after-taken k v rest e = rw e
-
-pub after-refused : (k : ℕ) (v : Verdict) (r : Refusal) (rest : Answer) → v ≡ refused r → after k v rest ≡ refusal k r
-after-refused k v r rest e = rw e
+-- a list whose check leaves every rest as it is is accepted
+pub taken-by : (k : ℕ) (v : Verdict) → ((rest : Answer) → rest ≡ after k v rest) → v ≡ accepted
+taken-by k accepted h = refl
+taken-by k (refused r) h = let e : says Question.alike ≡ refusal k r = h (says Question.alike) in cc
 
 -- the verdict that is said
 verdict_in : Answer → Question.Verdict → Question.Verdict
 verdict_in (refusal k r) else = else
 verdict_in (says v) else = v
 
-module _ (first second : List ℤ) (w : ℕ) (r : Code.Answer) (e : told r ≡ answer first second w) where
+module _ (first second : List ℤ) (w : ℕ) (r : Result Code.Verdict Blame) (e : told r ≡ answer first second w) where
   taken : Taken first second w → told r ≡ says (verdict w (ops_of first) (ops_of second))
   unfolding answer
   taken t = e ∙ rw (t.one, t.two)

@@ -12,12 +12,12 @@ use Rattle.rules.specs.Limits.{width, max_gates, max_wires, max_columns}
 use Rattle.rules.specs.Refusal.{Fault, Verdict, accepted, refused, tell, first_number, ruled}
 use Rattle.rules.proofs.Bits.{split}
 use Rattle.rules.proofs.Accepting.{place_of}
+use Rattle.std.specs.Prelude.{Err}
 use Rattle.acting.specs.Alike as Question
 use Rattle.compare.specs.View.{ops_of}
 use Rattle.alike.specs.Asking.{asked_at, whole_asked, asked_from, asked}
 use Rattle.alike.specs.Answering.{Answer, refusal, says, after, answer, told}
 use Rattle.alike.specs.declared.Blame.{Blame}
-use Rattle.alike.specs.declared.Answer.TheVariants.{Refused}
 
 ruled-place : (f : Fault) (p m : ℕ) (v : Verdict) → p ≤ m → (f.number ≡ 0 → place_of v ≤ m) → place_of (ruled f p v) ≤ m
 ruled-place f p m v h g = split (eqb f.number 0) (λ e. rw e (g (eqb-true f.number 0 e))) (λ e. rw e h)
@@ -51,6 +51,6 @@ after-place accepted accepted v m h k = omega arith
 after-place accepted (refused r) v m h k = k
 after-place (refused r) two v m h k = h
 
-pub blame-place : (first second : List ℤ) (w : ℕ) (b : Blame) → told (Refused b) ≡ answer first second w → b.refusal.place ≤ max_gates
+pub blame-place : (first second : List ℤ) (w : ℕ) (b : Blame) → told (Err b) ≡ answer first second w → b.refusal.place ≤ max_gates
 unfolding answer place_in
 blame-place first second w b e = omega (arith, ap place_in e, after-place (asked first w) (asked second w) (Question.verdict w (ops_of first) (ops_of second)) max_gates (asked-place first w) (asked-place second w))

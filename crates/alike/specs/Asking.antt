@@ -1,5 +1,5 @@
 -- The refusals of one of two lists of fragment gates, exactly when each is given, and in their order. There are no classical bits.
-use Rattle.std.specs.Prelude.{Bool, not, List, [], ◌∷◌, ◌++◌, ℕ, zero, suc, ◌/◌, ◌%◌, eqb, ltb, ℤ, pos, length}
+use Rattle.std.specs.Prelude.{Bool, not, ◌||◌, List, [], ◌∷◌, ◌++◌, ℕ, zero, suc, ◌/◌, ◌%◌, eqb, ltb, ℤ, pos, length}
 use Rattle.rules.specs.Limits.{width, max_gates, max_wires, max_columns}
 use Rattle.rules.specs.Gate.{fragment}
 use Rattle.rules.specs.Numbers.{nat_of, negative, field}
@@ -8,6 +8,10 @@ use Rattle.rules.specs.Refusal.{Fault, Verdict, accepted, tell, none, first_numb
 -- the tests of a gate: those of any list up to 9 (a line of 0 fails none), then 16 for an opaque code, and 18 last. A measure is refused by 14 before it could be by 16
 abbrev pub asked_tests : ℕ → ℕ → ℤ → ℤ → ℤ → ℤ → ℤ → List (Bool × Fault)
 asked_tests c w x y z t s = gate_tests c w zero x y z t (pos zero) ++ ((not (fragment c), tell 16 0) ∷ (negative s, tell 18 0) ∷ [])
+
+-- a fault's number says that no test up to 9 fails: 18 stands behind them
+abbrev pub passes_nine : ℕ → Bool
+passes_nine number = eqb number 0 || eqb number 18
 
 -- what is wrong with the gate at place i
 unfoldable pub asked_at : List ℤ → ℕ → ℕ → Fault

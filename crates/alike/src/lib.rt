@@ -3,104 +3,108 @@
 
 ghost use Rattle.std.specs.Prelude.{◌≡◌, ◌+◌, ◌*◌, ◌≤◌, length};
 ghost use Rattle.rules.specs.Limits.{width};
-ghost use Rattle.rules.specs.Refusal.{accepted};
+ghost use Rattle.gate.specs.Tests as Tests;
 ghost use Rattle.gate.specs.Verdicts.{verdict_of};
-ghost use Rattle.acting.specs.Alike.{verdict};
-ghost use Rattle.compare.specs.View.{ops_of};
-ghost use Rattle.alike.specs.Asking.{asked_at, asked_from, asked};
+ghost use Rattle.alike.specs.Asking.{passes_nine, asked_at, asked_from, asked};
 ghost use Rattle.alike.specs.Answering as Asked;
-ghost use Rattle.alike.specs.Answering.{told, Answers};
+ghost use Rattle.alike.specs.Answering.{told_or, Answers, number_of};
 
 use acting::Verdict;
-use gate::Refusal;
+use gate::{Fault, Refusal};
 use rules::{CODE_CZ, CODE_X, GATE_WIDTH, MAX_COLUMNS, MAX_GATES, MAX_WIRES};
 
-// The number of a gate outside the fragment, and that of a negative line, which comes after it.
-const OPAQUE: u8 = 16;
+// One of the two lists.
+#[derive(Clone, Copy, Debug, PartialEq, Eq)]
+pub enum Which {
+    First,
+    Second,
+}
 
-const LINE: u8 = 18;
+impl Which {
+    // Its number, 1 or 2.
+    pub fn number(self) -> u8
+        ensures { result ≡ number_of self }
+    {
+        match self {
+            Which::First => 1,
+            Which::Second => 2,
+        }
+    }
+}
 
-// A refusal, and the list that it belongs to: 1 or 2.
-#[derive(Clone, Copy)]
+// A refusal, and the list that it belongs to.
+#[derive(Clone, Copy, Debug, PartialEq, Eq)]
 pub struct Blame {
-    pub list: u8,
+    pub list: Which,
     pub refusal: Refusal,
 }
 
-#[derive(Clone, Copy)]
-pub enum Answer {
-    Refused(Blame),
-    Told(Verdict),
+// Whether all tests up to 9 pass: a negative line stands behind them.
+fn passes_nine(fault: Option<Fault>) -> bool
+    ensures { result ≡ passes_nine (Tests.told fault).number }
+{
+    matches!(fault, None | Some(Fault::Line))
 }
 
-// The number of the gate's refusal, or 0 for none: 16 for an opaque code stands between 9 and 18.
-fn number_at(list: &[i32], wires: usize, i: usize) -> u8
+// What is wrong with the gate at a place: an opaque code stands between a wire twice and a negative line.
+fn fault_at(list: &[i32], wires: usize, i: usize) -> Option<Fault>
     requires { width * i + width ≤ length list.now }
-    ensures { result ≡ (asked_at list.now wires i).number }
+    ensures { Tests.told result ≡ asked_at list.now wires i }
 {
     let code = gate::nat(list[GATE_WIDTH * i]);
-    let number = gate::fault_at(list, wires, 0, i);
+    let fault = gate::fault_at(list, wires, 0, i);
     let opaque = !((CODE_X <= code) & (code <= CODE_CZ));
-    if ((number == 0) | (number == LINE)) & opaque {
-        OPAQUE
+    if passes_nine(fault) & opaque {
+        Some(Fault::Opaque)
     } else {
-        number
+        fault
     }
 }
 
 // The first n gates, in list order.
-fn check_gates(list: &[i32], wires: usize, n: usize) -> gate::Verdict
+fn check_gates(list: &[i32], wires: usize, n: usize) -> Result<(), Refusal>
     requires { width * n ≤ length list.now }
     ensures { verdict_of result ≡ asked_from list.now wires n 0 }
 {
-    let mut i = 0;
-    while i < n {
-        let number = number_at(list, wires, i);
-        if number != 0 {
-            return gate::refused(number, i, gate::field_at(list, wires, 0, i));
+    for i in 0..n {
+        if let Some(fault) = fault_at(list, wires, i) {
+            return Err(Refusal { fault, place: i });
         }
-        i += 1;
     }
-    gate::Verdict::Accepted
+    Ok(())
 }
 
 // One list against the limits, then its gates.
-fn check(list: &[i32], wires: usize) -> gate::Verdict
+fn check(list: &[i32], wires: usize) -> Result<(), Refusal>
     ensures { verdict_of result ≡ asked list.now wires }
 {
     let n = list.len();
     let g = n / GATE_WIDTH;
-    let fails = [
-        n % GATE_WIDTH != 0,
-        MAX_GATES < g,
-        MAX_WIRES < wires,
-        MAX_COLUMNS < wires,
+    let tests = [
+        (n % GATE_WIDTH != 0, Fault::Length),
+        (MAX_GATES < g, Fault::Gates),
+        (MAX_WIRES < wires, Fault::Limits),
+        (MAX_COLUMNS < wires, Fault::CompareLimits),
     ];
-    let numbers = [1u8, 2, 3, 17];
-    let number = gate::first_of(&fails, &numbers);
-    if number != 0 {
-        return gate::refused(number, 0, 0);
-    }
+    gate::check_whole(&tests)?;
     check_gates(list, wires, g)
 }
 
-// The first list is accepted.
-fn with_second(first: &[i32], second: &[i32], wires: usize) -> Answer
-    requires { asked first.now wires ≡ accepted }
-    ensures { told result ≡ Asked.after 2 (asked second.now wires) (Asked.says (verdict wires (ops_of first.now) (ops_of second.now))) }
+// The same of one of the two lists, which is told.
+fn check_of(which: Which, list: &[i32], wires: usize) -> Result<(), Blame>
+    ensures { (rest : Asked.Answer) → told_or result rest ≡ Asked.after (number_of which) (asked list.now wires) rest }
 {
-    let gate::Verdict::Refused(refusal) = check(second, wires) else {
-        return Answer::Told(compare::compare(first, second, wires));
-    };
-    Answer::Refused(Blame { list: 2, refusal })
+    check(list, wires).map_err(|refusal| Blame {
+        list: which,
+        refusal,
+    })
 }
 
 // Any two lists, any number of wires: refused, with the list that it belongs to; or the same, or the first that differs of linear map, flips and phase.
-pub fn alike(first: &[i32], second: &[i32], wires: usize) -> Answer
+pub fn alike(first: &[i32], second: &[i32], wires: usize) -> Result<Verdict, Blame>
     ensures { Answers first.now second.now wires result }
 {
-    let gate::Verdict::Refused(refusal) = check(first, wires) else {
-        return with_second(first, second, wires);
-    };
-    Answer::Refused(Blame { list: 1, refusal })
+    check_of(Which::First, first, wires)?;
+    check_of(Which::Second, second, wires)?;
+    Ok(compare::compare(first, second, wires))
 }

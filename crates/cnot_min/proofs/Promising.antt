@@ -11,6 +11,8 @@ use Rattle.rules.specs.Gate.{Gate}
 use Rattle.rules.specs.Numbers.{gates_of, numbers_of}
 use Rattle.rules.specs.Refusal as Refusals
 use Rattle.rules.specs.Plan.{plan_of}
+use Rattle.std.specs.Prelude as Res
+use Rattle.gate.specs.declared.Refusal.{Refusal}
 use Rattle.rules.specs.Scan.{Result}
 use Rattle.rules.specs.Lines.{five_of}
 use Rattle.rules.specs.Promise.{Promised}
@@ -19,7 +21,7 @@ use Rattle.rules.specs.Pass.{writer_of}
 use Rattle.rules.proofs.Reading.{read-written, length-numbers}
 use Rattle.rules.proofs.Resynthesis.{promised, counts-spent, five}
 use Rattle.cnot_min.specs.Minimizing.{told, shown, Minimizes, Minimized}
-use Rattle.cnot_min.specs.declared.Answer.{Answer}
+use Rattle.cnot_min.specs.declared.Counts.{Counts}
 
 -- what the counts and the output show is the pass
 shown-is : (l : List ℤ) (q t : ℕ) (out : List ℤ) → shown (Paper.counts (gates_of l) (Paper.pass q t (gates_of l))) (Paper.out_after (length (gates_of l)) (Paper.pass q t (gates_of l)).gates out) ≡ Paper.pass q t (gates_of l)
@@ -66,7 +68,7 @@ module _ (l : List ℤ) (w b q t : ℕ) (out : List ℤ) (terms steps : List ℕ
   unfolding Paper.after
   after-refused r e = rw e refl
 
-  pub minimizes : (r : Answer) (out' : List ℤ) (terms' steps' : List ℕ) → Refusals.verdict l w b (length out) (length terms) (length steps) ≡ Refusals.accepted
+  pub minimizes : (r : Res.Result Counts Refusal) (out' : List ℤ) (terms' steps' : List ℕ) → Refusals.verdict l w b (length out) (length terms) (length steps) ≡ Refusals.accepted
       → Minimized l q t out terms steps r out' terms' steps' → Minimizes l w b q t out terms steps r out' terms' steps'
   minimizes r out' terms' steps' e m = record {
     answer = m.answer ∙ ap (λ (x : Paper.After). x.answer) (sym (after-accepted e));
@@ -93,7 +95,7 @@ module _ (l : List ℤ) (w b q t : ℕ) (out : List ℤ) (terms steps : List ℕ
       promised-of : (c : Paper.Counts) → told r ≡ Paper.done c → let p = plan_of q t in Promised (writer_of p) p (gates_of l) (shown c out')
       promised-of c f = let p = plan_of q t in subst (Promised (writer_of p) p (gates_of l)) (sym (whole c f)) (promised q t (gates_of l))
 
-  pub refuses : (r : Refusals.Refusal) (a : Answer) → told a ≡ Paper.refusal r → Refusals.verdict l w b (length out) (length terms) (length steps) ≡ Refusals.refused r
+  pub refuses : (r : Refusals.Refusal) (a : Res.Result Counts Refusal) → told a ≡ Paper.refusal r → Refusals.verdict l w b (length out) (length terms) (length steps) ≡ Refusals.refused r
       → Minimizes l w b q t out terms steps a out terms steps
   refuses r a f e = record {
     answer = f ∙ ap (λ (x : Paper.After). x.answer) (sym (after-refused r e));

@@ -1,18 +1,18 @@
 -- The rooms of an accepted list: what the scan is lent, and what is left in them.
 use mathlib.Core.Path.{◌≡◌, refl, sym, ap, ◌∙◌}
-use mathlib.Core.List.{List, [], ◌∷◌, ◌++◌, append-nil}
+use mathlib.Core.List.{List, [], ◌∷◌, ◌++◌}
 use Prim.Native.Nat.{ℕ, zero, suc, ◌-◌, ◌*◌, ◌≤◌}
 use native.Mathlib.Omega.{arith}
-use borrow.Rule.Slice.PartMut.{put_mid, post_of, mid_of}
 use lib.IntN.{ℤ, pos}
-use lib.ListN.{length, get_or, take, drop, replicate, length-drop, length-append, length-replicate}
-use lib.Seq.{length-take-le, drop-length}
+use lib.ListN.{length, get_or, take, drop, replicate, length-append, length-replicate}
+use lib.Seq.{length-take-le}
 use Rattle.rules.specs.Limits.{width, max_gates, max_wires, max_columns, term_width, step_width, term_entries, step_entries}
 use Rattle.rules.specs.Gate.{Gate}
 use Rattle.rules.specs.Numbers.{gates_of, numbers_of}
 use Rattle.rules.specs.Counts.{twos, ts}
 use Rattle.rules.specs.Refusal.{verdict, accepted}
 use Rattle.rules.specs.Plan.{Plan, plan_of}
+use Rattle.std.specs.Prelude.{Ok}
 use Rattle.rules.specs.Scan.{Writer, Result, pass_by}
 use Rattle.rules.specs.Pass as Paper
 use Rattle.rules.specs.Pass.{writer_of}
@@ -22,9 +22,12 @@ use Rattle.rules.proofs.Output.{output-length}
 use Rattle.terms.proofs.Room.{room-length}
 use Rattle.scan.specs.Scanning.{Scannable, Scans, gates_in}
 use Rattle.scan.specs.declared.Tally.{Tally}
-use Rattle.cnot_min.specs.Minimizing.{counted, Rewritable, Rewrites, Minimized}
+use Rattle.cnot_min.specs.Minimizing.{counted, Lent, Rewritable, Rewrites, Minimized}
 use Rattle.cnot_min.specs.declared.Counts.{Counts}
-use Rattle.cnot_min.specs.declared.Answer.TheVariants.{Done}
+
+-- a list that is its gates' numbers and no more
+even : (l : List ℤ) → numbers_of (gates_of l) ≡ l → length l ≡ width * gates_in l
+even l e = sym (ap length e) ∙ length-numbers (gates_of l) ∙ ap (λ (k : ℕ). width * k) (gates-length l)
 
 -- ---- what the scan is lent
 
@@ -53,15 +56,6 @@ scannable p w l out terms steps r =
 
 -- ---- what is left
 
--- a part that reaches to the room's end
-put_last : {A : Type 0} (a : ℕ) (xs ys : List A) → a ≤ length xs → put_mid a (length xs - a) xs ys ≡ take a xs ++ ys
-put_last {A} a xs ys h =
-    let e : post_of a (length xs - a) xs ≡ [] = ap (λ (k : ℕ). drop k (drop a xs)) (sym (length-drop a xs)) ∙ drop-length (drop a xs) in
-    ap (λ (zs : List A). take a xs ++ (ys ++ zs)) e ∙ ap (λ (zs : List A). take a xs ++ zs) (append-nil ys)
-
-mid-last : {A : Type 0} (a : ℕ) (xs : List A) → a ≤ length xs → length (mid_of a (length xs - a) xs) ≡ length xs - a
-mid-last a xs h = length-take-le (length xs - a) (drop a xs) (omega (arith, length-drop a xs))
-
 -- the counts, part by part
 counts-eq : (gs hs : List Gate) (r : Result) (g m b p : ℕ) → g ≡ length gs → hs ≡ r.gates → m ≡ length r.gates → b ≡ r.blocks → p ≡ r.replaced
     → ◌≡◌ {A = Paper.Counts} (record { gates_in = g; gates_out = m; twos_in = twos gs; twos_out = twos hs; t_in = ts gs; t_out = ts hs; blocks = b; replaced = p }) (Paper.counts gs r)
@@ -76,9 +70,6 @@ module _ (write : Writer) (p : Plan) (w : ℕ) (l out : List ℤ) (terms steps :
   few : s.gates ≤ gates_in l
   few = omega (arith, scan.gates, output-length write p (gates_of l), gates-length l)
 
-  pub low : s.gates ≤ max_gates
-  low = omega (arith, few, fit.checked.few)
-
   pub shorter : length out₁ ≡ length out → width * s.gates ≤ length out₁
   shorter e = omega (arith, few, fit.out-fits)
 
@@ -91,49 +82,41 @@ module _ (write : Writer) (p : Plan) (w : ℕ) (l out : List ℤ) (terms steps :
       ap counted e
       ∙ counts-eq (gates_of l) (gates_of made) r (gates_in l) s.gates s.blocks s.replaced (sym (gates-length l)) (ap gates_of scan.text ∙ read-written r.gates) scan.gates scan.blocks scan.replaced
 
-  pub rewrites : (c : Counts) (new : List ℤ) (terms₁ steps₁ terms' steps' : List ℕ) → counted c ≡ Paper.counts (gates_of l) (pass_by write p (gates_of l)) → length out₁ ≡ length out
-      → new ≡ replicate (length (mid_of (width * s.gates) (length out₁ - width * s.gates) out₁)) (pos 0)
+  pub rewrites : (c : Counts) (out' : List ℤ) (terms₁ steps₁ terms' steps' : List ℕ) → counted c ≡ Paper.counts (gates_of l) (pass_by write p (gates_of l)) → length out₁ ≡ length out
+      → out' ≡ take (width * s.gates) out₁ ++ replicate (length out₁ - width * s.gates) (pos 0)
       → terms' ≡ replicate (length terms₁) 0 → length terms₁ ≡ length terms → steps' ≡ replicate (length steps₁) 0 → length steps₁ ≡ length steps
-      → Rewrites write p l c (put_mid (width * s.gates) (length out₁ - width * s.gates) out₁ new) terms' steps'
+      → Rewrites write p l c out' terms' steps'
   unfolding result
-  rewrites c new terms₁ steps₁ terms' steps' counts e zeros z₁ e₁ z₂ e₂ =
-      let long : width * s.gates ≤ length out₁ = shorter e in
-      let rest : length (mid_of (width * s.gates) (length out₁ - width * s.gates) out₁) ≡ width * (gates_in l - length result) =
-      mid-last (width * s.gates) out₁ long ∙ omega (arith, scan.gates, few, e, fit.out-fits, even) in
+  rewrites c out' terms₁ steps₁ terms' steps' counts e zeros z₁ e₁ z₂ e₂ =
+      let rest : length out₁ - width * s.gates ≡ width * (gates_in l - length result) = omega (arith, scan.gates, few, e, fit.out-fits, even l fit.checked.exact) in
       record {
         counts = counts;
-        out-is = put_last (width * s.gates) out₁ new long ∙ ap (λ ns. ns ++ new) scan.text ∙ ap (λ ns. numbers_of result ++ ns) (zeros ∙ ap (λ (k : ℕ). replicate k (pos 0)) rest);
+        out-is = zeros ∙ ap (λ ns. ns ++ replicate (length out₁ - width * s.gates) (pos 0)) scan.text ∙ ap (λ (k : ℕ). numbers_of result ++ replicate k (pos 0)) rest;
         terms-are = z₁ ∙ ap (λ (k : ℕ). replicate k 0) (e₁ ∙ fit.terms-fit);
         steps-are = z₂ ∙ ap (λ (k : ℕ). replicate k 0) (e₂ ∙ fit.steps-fit);
       }
-    where
-      even : length l ≡ width * gates_in l
-      even = sym (ap length fit.checked.exact) ∙ length-numbers (gates_of l) ∙ ap (λ (k : ℕ). width * k) (gates-length l)
 
 -- ---- rooms that are longer
 
-module _ (l : List ℤ) (w b : ℕ) (out : List ℤ) (terms steps : List ℕ) (e : verdict l w b (length out) (length terms) (length steps) ≡ accepted) where
-  limits : Accepted l w b (length out) (length terms) (length steps)
-  limits = accepted-is l w b (length out) (length terms) (length steps) e
+pub lent : (l : List ℤ) (w b out terms steps : ℕ) → verdict l w b out terms steps ≡ accepted → Lent l w out terms steps
+lent l w b out terms steps e =
+    let limits : Accepted l w b out terms steps = accepted-is l w b out terms steps e in
+    record {
+      checked = record { bits = b; exact = write_read l w b out terms steps e; few = limits.few; wires = limits.wires; each = limits.each };
+      out-fits = omega (arith, limits.room);
+      terms-fit = omega (arith, limits.term-room);
+      steps-fit = omega (arith, limits.step_room);
+    }
 
-  pub out-room : width * gates_in l ≤ length out
-  out-room = omega (arith, limits.room)
-
-  pub term-room : term_width * term_entries (gates_in l) ≤ length terms
-  term-room = omega (arith, limits.term-room)
-
-  pub step_room : step_width * step_entries (gates_in l) ≤ length steps
-  step_room = omega (arith, limits.step_room)
-
-  pub rewritable : (p : Plan) → p.qubits ≤ max_columns
-      → Rewritable p l w (take (width * gates_in l) out) (take (term_width * term_entries (gates_in l)) terms) (take (step_width * step_entries (gates_in l)) steps)
-  rewritable p k = record {
-    capped = k;
-    checked = record { bits = b; exact = write_read l w b (length out) (length terms) (length steps) e; few = limits.few; wires = limits.wires; each = limits.each };
-    out-fits = length-take-le (width * gates_in l) out out-room ∙ omega (arith, limits.even);
-    terms-fit = length-take-le (term_width * term_entries (gates_in l)) terms term-room;
-    steps-fit = length-take-le (step_width * step_entries (gates_in l)) steps step_room;
-  }
+pub rewritable : (p : Plan) (l : List ℤ) (w : ℕ) (out : List ℤ) (terms steps : List ℕ) → p.qubits ≤ max_columns → Lent l w (length out) (length terms) (length steps)
+    → Rewritable p l w (take (width * gates_in l) out) (take (term_width * term_entries (gates_in l)) terms) (take (step_width * step_entries (gates_in l)) steps)
+rewritable p l w out terms steps k h = record {
+  capped = k;
+  checked = h.checked;
+  out-fits = length-take-le (width * gates_in l) out h.out-fits ∙ sym (even l h.checked.exact);
+  terms-fit = length-take-le (term_width * term_entries (gates_in l)) terms h.terms-fit;
+  steps-fit = length-take-le (step_width * step_entries (gates_in l)) steps h.steps-fit;
+}
 
 -- the plan of two caps is clamped
 pub clamped : (q t : ℕ) → (plan_of q t).qubits ≤ max_columns
@@ -153,7 +136,7 @@ module _ (l : List ℤ) (q t : ℕ) (c : Counts) (new : List ℤ) (terms' steps'
       ∙ omega (arith, length-numbers made, length-replicate (width * (gates_in l - length made)) (pos 0), output-length (writer_of (plan_of q t)) (plan_of q t) (gates_of l), gates-length l)
 
   pub minimized : (out : List ℤ) (terms steps : List ℕ)
-      → Minimized l q t out terms steps (Done c) (new ++ drop (width * gates_in l) out) (terms' ++ drop (term_width * term_entries (gates_in l)) terms) (steps' ++ drop (step_width * step_entries (gates_in l)) steps)
+      → Minimized l q t out terms steps (Ok c) (new ++ drop (width * gates_in l) out) (terms' ++ drop (term_width * term_entries (gates_in l)) terms) (steps' ++ drop (step_width * step_entries (gates_in l)) steps)
   unfolding Paper.pass Paper.out_after Paper.terms_after Paper.steps_after
   minimized out terms steps =
       let g : gates_in l ≡ length (gates_of l) = sym (gates-length l) in

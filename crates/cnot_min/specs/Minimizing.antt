@@ -1,22 +1,22 @@
 -- What the entry point promises, for every list, any numbers of wires and bits, any two caps and any three rooms.
-use Rattle.std.specs.Prelude.{◌≡◌, List, ◌++◌, ℕ, ◌-◌, ◌*◌, ◌≤◌, ℤ, pos, length, take, replicate}
+use Rattle.std.specs.Prelude.{◌≡◌, Result, Ok, Err, List, ◌++◌, ℕ, ◌-◌, ◌*◌, ◌≤◌, ℤ, pos, length, take, replicate}
 use Rattle.rules.specs.Limits.{width, max_columns, term_width, step_width, term_entries, step_entries}
 use Rattle.rules.specs.Numbers.{gates_of, numbers_of}
 use Rattle.rules.specs.Stretch.{Stretchwise, AlikeGates}
 use Rattle.rules.specs.Counts.{Thrifty, NoMoreT}
 use Rattle.rules.specs.Plan.{Plan, plan_of}
 use Rattle.rules.specs.Synth.{resynthesis}
-use Rattle.rules.specs.Scan.{Writer, pieces_of, Result, pass_by}
+use Rattle.rules.specs.Scan as Scan
+use Rattle.rules.specs.Scan.{Writer, pieces_of, pass_by}
 use Rattle.rules.specs.Lines as Lines
 use Rattle.rules.specs.Lines.{lines_after, LinesFrom, unlined, five_of}
 use Rattle.rules.specs.Promise.{Exactly}
 use Rattle.rules.specs.Pass as Paper
 use Rattle.rules.specs.Pass.{writer_of}
+use Rattle.gate.specs.declared.Refusal.{Refusal}
 use Rattle.gate.specs.Verdicts.{refusal_of}
 use Rattle.scan.specs.Scanning.{Checked, gates_in}
 use Rattle.cnot_min.specs.declared.Counts.{Counts}
-use Rattle.cnot_min.specs.declared.Answer.{Answer}
-use Rattle.cnot_min.specs.declared.Answer.TheVariants.{Refused, Done}
 
 -- ---- the answer, in document 01's words
 
@@ -34,18 +34,18 @@ counted c = record {
 }
 
 -- a refusal's number, place and field, or the eight counts
-abbrev pub told : Answer → Paper.Answer
-told (Refused r) = Paper.refusal (refusal_of r)
-told (Done c) = Paper.done (counted c)
+abbrev pub told : Result Counts Refusal → Paper.Answer
+told (Err r) = Paper.refusal (refusal_of r)
+told (Ok c) = Paper.done (counted c)
 
 -- ---- the promise
 
 -- the result that the counts and the output show: as many gates as they say, read from the output's beginning
-abbrev pub shown : Paper.Counts → List ℤ → Result
+abbrev pub shown : Paper.Counts → List ℤ → Scan.Result
 shown c out = record { gates = gates_of (take (width * c.gates_out) out); blocks = c.blocks; replaced = c.replaced }
 
 -- demands 1, 2 and 3, that T never rises, and the lines
-pub record Minimizes (l : List ℤ) (wires bits qcap tcap : ℕ) (out : List ℤ) (terms steps : List ℕ) (r : Answer) (out' : List ℤ) (terms' steps' : List ℕ) : Type 0 where
+pub record Minimizes (l : List ℤ) (wires bits qcap tcap : ℕ) (out : List ℤ) (terms steps : List ℕ) (r : Result Counts Refusal) (out' : List ℤ) (terms' steps' : List ℕ) : Type 0 where
   -- refused exactly when document 01's table says, with its number, place and field; else the eight counts of document 01's pass.
   -- Wrong: always refusing; a count that is invented
   pub answer : told r ≡ (Paper.after l wires bits qcap tcap out terms steps).answer
@@ -80,6 +80,13 @@ pub record Minimizes (l : List ℤ) (wires bits qcap tcap : ℕ) (out : List ℤ
 
 -- ---- an accepted list
 
+-- its gates are sound, and rooms of these lengths are long enough for it
+pub record Lent (l : List ℤ) (w out terms steps : ℕ) : Type 0 where
+  pub checked : Checked l w
+  pub out-fits : width * gates_in l ≤ out
+  pub terms-fit : term_width * term_entries (gates_in l) ≤ terms
+  pub steps-fit : step_width * step_entries (gates_in l) ≤ steps
+
 -- rooms of exactly the length that the list needs
 pub record Rewritable (p : Plan) (l : List ℤ) (w : ℕ) (out : List ℤ) (terms steps : List ℕ) : Type 0 where
   pub capped : p.qubits ≤ max_columns
@@ -96,7 +103,7 @@ pub record Rewrites (write : Writer) (p : Plan) (l : List ℤ) (c : Counts) (out
   pub steps-are : steps' ≡ replicate (step_width * step_entries (gates_in l)) 0
 
 -- the same in rooms that are at least as long
-pub record Minimized (l : List ℤ) (qcap tcap : ℕ) (out : List ℤ) (terms steps : List ℕ) (r : Answer) (out' : List ℤ) (terms' steps' : List ℕ) : Type 0 where
+pub record Minimized (l : List ℤ) (qcap tcap : ℕ) (out : List ℤ) (terms steps : List ℕ) (r : Result Counts Refusal) (out' : List ℤ) (terms' steps' : List ℕ) : Type 0 where
   pub answer : told r ≡ Paper.done (Paper.counts (gates_of l) (Paper.pass qcap tcap (gates_of l)))
   pub out-is : out' ≡ Paper.out_after (length (gates_of l)) (Paper.pass qcap tcap (gates_of l)).gates out
   pub terms-are : terms' ≡ Paper.terms_after (length (gates_of l)) terms

@@ -1,54 +1,65 @@
--- The first of some tests that fails, by its place; and what is then wrong with a gate.
-use mathlib.Core.Path.{◌≡◌, refl, sym, ◌∙◌}
-use mathlib.Core.Logic.{◌≢◌}
-use mathlib.Core.Bool.{Bool, true, false}
+-- The first of some tests that fails, and what it decides.
+use mathlib.Core.Path.{◌≡◌, refl, sym}
+use mathlib.Core.Bool.{Bool, false}
 use mathlib.Core.List.{List, [], ◌∷◌}
-use Prim.Native.Nat.{ℕ, zero, suc, ◌+◌, ◌≤◌, ◌<◌, zero-le, suc-le-suc}
-use native.Mathlib.Nat.{not-suc-le-zero, le_of_suc-le-suc}
+use Prim.Native.Nat.{ℕ}
 use native.Mathlib.Omega.{arith}
-use borrow.Author.Tests.{eq-eqb, ne_eqb}
-use lib.IntN.{ℤ}
-use lib.ListN.{length, get_or}
-use Rattle.rules.specs.Numbers.{nat_of, field}
-use Rattle.rules.specs.Refusal.{Fault, Verdict, none, first_number, refuse, ruled, gate_tests, fault_at}
-use Rattle.rules.proofs.Bits.{same}
-use Rattle.rules.proofs.Accepting.{parts, fault-part}
-use Rattle.gate.specs.Numbered.{numbered}
+use lib.Dec.{eqb}
+use Rattle.rules.specs.Refusal as Paper
+use Rattle.rules.specs.Refusal.{Verdict, accepted, refused, tell, none, first_number, ruled}
+use Rattle.rules.proofs.Bits.{split}
+use Rattle.rules.proofs.Accepting.{first-map}
+use Rattle.gate.specs.declared.Field.TheVariants.{First, Second, Third}
+use Rattle.gate.specs.declared.Fault.{Fault}
+use Rattle.gate.specs.declared.Fault.TheVariants.{Length, Gates, Limits, OutRoom, WorkRooms, Code, Unused, Range, Twice, Bit, PlainLimits, Opaque, CompareLimits, Line}
+use Rattle.gate.specs.Faults.{tells}
+use Rattle.gate.specs.Verdicts.{refusal_of}
+use Rattle.gate.specs.Tests.{first, all_told, told}
 
--- none of the first i fails
-abbrev pub Passed : List Bool → ℕ → Type 0
-Passed fs i = (j : ℕ) → j < i → get_or fs j false ≡ false
+-- told in document 01's numbers it is the first of the tests so told
+pub first-told : (tests : List (Bool × Fault)) → told (first tests) ≡ first_number (all_told tests) none
+first-told [] = refl
+first-told (test ∷ others) = split test.0 (λ e. rw e) (λ e. rw e (first-told others))
 
-pub passed-next : (fs : List Bool) (i : ℕ) → Passed fs i → get_or fs i false ≡ false → Passed fs (i + 1)
-passed-next fs i p e j h = same j i (λ q t. rw q e) (λ q t. p j (omega arith))
-
-passed-rest : (f : Bool) (fs : List Bool) (i : ℕ) → Passed (f ∷ fs) (suc i) → Passed fs i
-passed-rest f fs i p j h = p (suc j) (suc-le-suc h)
-
-pub first-at : (fs : List Bool) (ns : List ℕ) (i : ℕ) → length fs ≤ length ns → i < length fs → Passed fs i → get_or fs i false ≡ true
-    → first_number (numbered fs ns) 0 ≡ get_or ns i 0
-first-at [] ns i l h p e = absurd (not-suc-le-zero h)
-first-at (f ∷ fs) [] i l h p e = absurd (not-suc-le-zero l)
-first-at (f ∷ fs) (n ∷ ns) zero l h p e = rw e
-first-at (f ∷ fs) (n ∷ ns) (suc i) l h p e =
-    rw (p zero (suc-le-suc zero-le)) (first-at fs ns i (le_of_suc-le-suc l) (le_of_suc-le-suc h) (passed-rest f fs i p) e)
-
-pub first-none : (fs : List Bool) (ns : List ℕ) → Passed fs (length fs) → first_number (numbered fs ns) 0 ≡ 0
-first-none [] ns p = refl
-first-none (f ∷ fs) [] p = refl
-first-none (f ∷ fs) (n ∷ ns) p = rw (p zero (suc-le-suc zero-le)) (first-none fs ns (passed-rest f fs (length fs) p))
-
--- ---- a gate's fault, by a part of it that each test gives
-
-pub part_at : (f : Fault → ℕ) (l : List ℤ) (w b i r : ℕ)
-    → r ≡ first_number (parts f (gate_tests (nat_of (field l i 0)) w b (field l i 1) (field l i 2) (field l i 3) (field l i 4) (field l i 5))) (f none) → r ≡ f (fault_at l w b i)
-unfolding fault_at
-part_at f l w b i r e = e ∙ sym (fault-part f w b (field l i 0) (field l i 1) (field l i 2) (field l i 3) (field l i 4) (field l i 5))
+-- the tests of a list as a whole
+pub whole-told : (a b c d e : Bool)
+    → tell (first_number ((a, 1) ∷ (b, 2) ∷ (c, 3) ∷ (d, 4) ∷ (e, 5) ∷ []) 0) 0 ≡ first_number (all_told ((a, Length) ∷ (b, Gates) ∷ (c, Limits) ∷ (d, OutRoom) ∷ (e, WorkRooms) ∷ [])) none
+whole-told a b c d e = first-map (λ (k : ℕ). tell k 0) ((a, 1) ∷ (b, 2) ∷ (c, 3) ∷ (d, 4) ∷ (e, 5) ∷ []) 0
 
 -- ---- what a fault decides
 
-pub ruled-some : (f : Fault) (p : ℕ) (v : Verdict) → f.number ≢ 0 → ruled f p v ≡ refuse f p
-ruled-some f p v h = rw (ne_eqb f.number 0 h)
+-- each fault has a number
+pub numbered : (f : Fault) → eqb (tells f).number 0 ≡ false
+numbered Length = refl
+numbered Gates = refl
+numbered Limits = refl
+numbered OutRoom = refl
+numbered WorkRooms = refl
+numbered Code = refl
+numbered Unused = refl
+numbered (Range First) = refl
+numbered (Range Second) = refl
+numbered (Range Third) = refl
+numbered Twice = refl
+numbered Bit = refl
+numbered PlainLimits = refl
+numbered Opaque = refl
+numbered CompareLimits = refl
+numbered Line = refl
 
-pub ruled-none : (f : Fault) (p : ℕ) (v : Verdict) → f.number ≡ 0 → ruled f p v ≡ v
-ruled-none f p v h = rw (eq-eqb f.number 0 h)
+-- so it refuses
+pub ruled-fault : (f : Fault) (g : Paper.Fault) (p : ℕ) (v : Verdict) → tells f ≡ g → refused (refusal_of (record { fault = f; place = p })) ≡ ruled g p v
+ruled-fault f g p v e = rw (← e, numbered f) refl
+
+pub ruled-none : (g : Paper.Fault) (p : ℕ) (v : Verdict) → none ≡ g → v ≡ ruled g p v
+ruled-none g p v e = rw (← e) refl
+
+not-refused : (r : Paper.Refusal) → refused r ≡ accepted → ⊥
+not-refused r e = let z : ◌≡◌ {A = ℕ} 0 1 = cc in omega arith
+
+-- what some tests decide before all else they decide before any rest
+pub ruled-ok : (g : Paper.Fault) (p : ℕ) (v : Verdict) → accepted ≡ ruled g p accepted → v ≡ ruled g p v
+ruled-ok g p v e = split (eqb g.number 0) (λ t. rw t refl) (λ t. absurd (not-refused _ (sym (rw t at e))))
+
+pub ruled-err : (g : Paper.Fault) (p : ℕ) (v : Verdict) (r : Paper.Refusal) → refused r ≡ ruled g p accepted → refused r ≡ ruled g p v
+ruled-err g p v r e = split (eqb g.number 0) (λ t. absurd (not-refused r (rw t at e))) (λ t. rw t (rw t at e))

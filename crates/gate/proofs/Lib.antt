@@ -1,5 +1,5 @@
 pub mod Tests
-mod First
+pub mod First
 mod Steps
 mod Faultless
 mod Tally

@@ -1,7 +1,7 @@
 -- A gate of the fragment that has nothing to refuse, as one quick test.
-use Rattle.std.specs.Prelude.{Bool, not, ◌&&◌, ◌||◌, List, ℕ, eqb, ℤ}
+use Rattle.std.specs.Prelude.{Bool, not, ◌&&◌, ◌||◌, ℕ, eqb, ℤ}
 use Rattle.rules.specs.Gate.{from, code_x, code_rz, code_cnot, code_cz}
-use Rattle.rules.specs.Numbers.{nat_of, inside, same, negative, field}
+use Rattle.rules.specs.Numbers.{inside, same, negative}
 use Rattle.rules.specs.Refusal.{nought}
 
 -- on one wire, with a turn only where the code is rz
@@ -14,7 +14,3 @@ paired c w x y t = from code_cnot code_cz c && (inside y w && (not (same x y) &&
 
 unfoldable pub plain : ℕ → ℕ → ℤ → ℤ → ℤ → ℤ → ℤ → Bool
 plain c w x y z t s = (single c y t || paired c w x y t) && (inside x w && (nought z && not (negative s)))
-
--- the gate at place i
-abbrev pub plain_at : List ℤ → ℕ → ℕ → Bool
-plain_at l w i = plain (nat_of (field l i 0)) w (field l i 1) (field l i 2) (field l i 3) (field l i 4) (field l i 5)

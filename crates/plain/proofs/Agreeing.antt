@@ -12,11 +12,13 @@ use Rattle.rules.specs.Numbers.{gates_of}
 use Rattle.rules.specs.Refusal.{Refusal, accepted, refused}
 use Rattle.rules.specs.Plan.{Plan}
 use Rattle.rules.specs.Pass as Paper
-use Rattle.cnot_min.specs.declared.Answer.{Answer}
+use Rattle.std.specs.Prelude as Res
+use Rattle.gate.specs.declared.Refusal as Code
+use Rattle.cnot_min.specs.declared.Counts.{Counts}
 use Rattle.cnot_min.specs.Minimizing.{told, Minimizes, Minimized}
 use Rattle.cnot_min.proofs.Rooms.{over-is}
 use Rattle.cnot_min.proofs.Promising.{not_done, minimizes}
-use Rattle.plain_check.specs.Refusing.{plain_verdict, Taken}
+use Rattle.plain_check.specs.Refusing.{plain_verdict}
 use Rattle.plain_check.proofs.Taking.{taken}
 use Rattle.plain_scan.specs.Sparing.{Sized}
 use Rattle.plain.specs.Plainly.{whole_after, PlainAfter, plain_after, Plainly, Agree}
@@ -31,9 +33,9 @@ whole-over new whole e h =
     let is : new ≡ replicate n (pos 0) = e ∙ ap (λ (k : ℕ). replicate k (pos 0)) (length-take-le n whole h) in
     over-is new whole n (ap length is ∙ length-replicate n (pos 0)) ∙ ap (λ (ns : List ℤ). Paper.over ns whole) is
 
--- what is accepted is short, narrow and has room, in exactly the part that is lent
-pub sized : (p : Plan) (l : List ℤ) (w b out terms steps : ℕ) (whole : List ℤ) → Taken l w b p.qubits out terms steps (length whole) → Sized p l (take (width * whole_gates) whole)
-sized p l w b out terms steps whole t = record { few = t.few; narrow = t.narrow; long = omega (arith, length-take-le (width * whole_gates) whole t.long) }
+-- in exactly the part that is lent there is room too
+pub sized : (p : Plan) (l whole : List ℤ) → Sized p l whole → Sized p l (take (width * whole_gates) whole)
+sized p l whole s = record { few = s.few; narrow = s.narrow; long = omega (arith, length-take-le (width * whole_gates) whole s.long) }
 
 -- ---- the promise, of an accepted list and of a refused one
 
@@ -56,7 +58,7 @@ module _ (l : List ℤ) (w b q t : ℕ) (out : List ℤ) (terms steps : List ℕ
   unfolding plain_after
   plain-refused r e = rw e refl
 
-  pub does : (r : Answer) (out' : List ℤ) (terms' steps' : List ℕ) (whole' : List ℤ)
+  pub does : (r : Res.Result Counts Code.Refusal) (out' : List ℤ) (terms' steps' : List ℕ) (whole' : List ℤ)
       → plain_verdict l w b (clamp_qubits q) (length out) (length terms) (length steps) (length whole) ≡ accepted
       → Minimized l q t out terms steps r out' terms' steps' → whole' ≡ whole_after whole → Plainly l w b q t out terms steps whole r out' terms' steps' whole'
   does r out' terms' steps' whole' e m z =
@@ -72,7 +74,7 @@ module _ (l : List ℤ) (w b q t : ℕ) (out : List ℤ) (terms steps : List ℕ
         exactly = ours.exactly;
       }
 
-  pub declines : (r : Refusal) (a : Answer) → told a ≡ Paper.refusal r
+  pub declines : (r : Refusal) (a : Res.Result Counts Code.Refusal) → told a ≡ Paper.refusal r
       → plain_verdict l w b (clamp_qubits q) (length out) (length terms) (length steps) (length whole) ≡ refused r
       → Plainly l w b q t out terms steps whole a out terms steps whole
   declines r a f e = record {
@@ -88,7 +90,7 @@ module _ (l : List ℤ) (w b q t : ℕ) (out : List ℤ) (terms steps : List ℕ
 
   -- ---- the two engines: whatever the first answers and leaves, and whatever the plain one does, where the plain one is done they are the same.
   -- Only the two contracts are used
-  pub engines-agree : (r₁ : Answer) (out₁ : List ℤ) (terms₁ steps₁ : List ℕ) (r₂ : Answer) (out₂ : List ℤ) (terms₂ steps₂ : List ℕ) (whole₂ : List ℤ)
+  pub engines-agree : (r₁ : Res.Result Counts Code.Refusal) (out₁ : List ℤ) (terms₁ steps₁ : List ℕ) (r₂ : Res.Result Counts Code.Refusal) (out₂ : List ℤ) (terms₂ steps₂ : List ℕ) (whole₂ : List ℤ)
       → Minimizes l w b q t out terms steps r₁ out₁ terms₁ steps₁ → Plainly l w b q t out terms steps whole r₂ out₂ terms₂ steps₂ whole₂
       → (c : Paper.Counts) → told r₂ ≡ Paper.done c → Agree r₁ out₁ terms₁ steps₁ r₂ out₂ terms₂ steps₂
   engines-agree r₁ out₁ terms₁ steps₁ r₂ out₂ terms₂ steps₂ whole₂ m p c f =

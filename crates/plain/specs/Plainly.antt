@@ -1,5 +1,5 @@
 -- What the plain engine promises, for every list, any numbers of wires and bits, any two caps and any four rooms.
-use Rattle.std.specs.Prelude.{◌≡◌, List, ℕ, zero, ◌*◌, ℤ, pos, length, replicate}
+use Rattle.std.specs.Prelude.{◌≡◌, Result, List, ℕ, zero, ◌*◌, ℤ, pos, length, replicate}
 use Rattle.rules.specs.Limits.{width, clamp_qubits, whole_gates}
 use Rattle.rules.specs.Numbers.{gates_of}
 use Rattle.rules.specs.Refusal.{Verdict, accepted, refused}
@@ -8,7 +8,8 @@ use Rattle.rules.specs.Plan.{Plan, plan_of}
 use Rattle.rules.specs.Promise.{Exactly}
 use Rattle.rules.specs.Pass as Paper
 use Rattle.rules.specs.Pass.{over, writer_of}
-use Rattle.cnot_min.specs.declared.Answer.{Answer}
+use Rattle.gate.specs.declared.Refusal.{Refusal}
+use Rattle.cnot_min.specs.declared.Counts.{Counts}
 use Rattle.cnot_min.specs.Minimizing.{told, shown, Minimizes, Minimized}
 use Rattle.plain_check.specs.Refusing.{plain_verdict}
 
@@ -36,7 +37,7 @@ plain_after l wires bits qcap tcap out terms steps whole =
 
 -- ---- the promise
 
-pub record Plainly (l : List ℤ) (wires bits qcap tcap : ℕ) (out : List ℤ) (terms steps : List ℕ) (whole : List ℤ) (r : Answer) (out' : List ℤ) (terms' steps' : List ℕ) (whole' : List ℤ) : Type 0 where
+pub record Plainly (l : List ℤ) (wires bits qcap tcap : ℕ) (out : List ℤ) (terms steps : List ℕ) (whole : List ℤ) (r : Result Counts Refusal) (out' : List ℤ) (terms' steps' : List ℕ) (whole' : List ℤ) : Type 0 where
   -- refused exactly when document 02 says, in its order, with the cap as it is clamped; else the eight counts of document 01's pass.
   -- Wrong: a cap of 0 or above 128 tested before it is clamped; 15 after 4
   pub answer : told r ≡ (plain_after l wires bits qcap tcap out terms steps whole).first.answer
@@ -55,7 +56,7 @@ pub record Plainly (l : List ℤ) (wires bits qcap tcap : ℕ) (out : List ℤ) 
   pub exactly : (c : Paper.Counts) → told r ≡ Paper.done c → let p = plan_of qcap tcap in Exactly (writer_of p) p (gates_of l) (shown c out')
 
 -- what the two engines leave, of the same list and in rooms of the same contents: the same
-pub record Agree (r₁ : Answer) (out₁ : List ℤ) (terms₁ steps₁ : List ℕ) (r₂ : Answer) (out₂ : List ℤ) (terms₂ steps₂ : List ℕ) : Type 0 where
+pub record Agree (r₁ : Result Counts Refusal) (out₁ : List ℤ) (terms₁ steps₁ : List ℕ) (r₂ : Result Counts Refusal) (out₂ : List ℤ) (terms₂ steps₂ : List ℕ) : Type 0 where
   pub answers : told r₁ ≡ told r₂
   pub outs : out₁ ≡ out₂
   pub terms : terms₁ ≡ terms₂
@@ -64,6 +65,6 @@ pub record Agree (r₁ : Answer) (out₁ : List ℤ) (terms₁ steps₁ : List �
 -- ---- an accepted list
 
 -- what the first engine leaves in three rooms, at any caps that give the plan; and all of the fourth is 0
-pub record Shortened (p : Plan) (l out : List ℤ) (terms steps : List ℕ) (whole : List ℤ) (r : Answer) (out' : List ℤ) (terms' steps' : List ℕ) (whole' : List ℤ) : Type 0 where
+pub record Shortened (p : Plan) (l out : List ℤ) (terms steps : List ℕ) (whole : List ℤ) (r : Result Counts Refusal) (out' : List ℤ) (terms' steps' : List ℕ) (whole' : List ℤ) : Type 0 where
   pub first : (qcap tcap : ℕ) → p ≡ plan_of qcap tcap → Minimized l qcap tcap out terms steps r out' terms' steps'
   pub whole_is : whole' ≡ whole_after whole

@@ -5,17 +5,17 @@
 ghost use Rattle.std.specs.Prelude.{◌≡◌, pos, length, replicate};
 ghost use Rattle.rules.specs.Pass.{writer_of};
 ghost use Rattle.plan.specs.View.{view};
-ghost use Rattle.cnot_min.specs.Minimizing.{Rewritable, Rewrites};
-ghost use Rattle.plain_check.specs.Refusing.{Taken};
+ghost use Rattle.cnot_min.specs.Minimizing.{Lent, Rewritable, Rewrites};
 ghost use Rattle.plain_scan.specs.Sparing.{Sized};
 ghost use Rattle.plain.specs.Plainly.{Shortened, Plainly};
 
-use cnot_min::{Answer, Counts};
-use gate::Verdict;
+use cnot_min::Counts;
+use gate::Refusal;
 use plan::Plan;
 use rules::{GATE_TERMS, GATE_WIDTH, MAX_COLUMNS, MAX_WIRES, STEP_WIDTH, TERM_WIDTH, WHOLE_GATES};
 
 // An accepted list, in rooms that are exactly what it needs.
+// Stays: `cnot_min` has the same steps over three rooms; one function for both would take the scan as a closure, whose contract is longer than this body.
 fn rewrite(
     list: &[i32],
     wires: usize,
@@ -39,31 +39,26 @@ fn rewrite(
         &mut *whole,
         plan,
     );
-    let end = GATE_WIDTH * s.gates;
-    let counts = cnot_min::count(list, &out[..end], s);
-    clear::signed(&mut out[end..]);
-    clear::words(terms);
-    clear::halves(steps);
-    clear::signed(whole);
-    counts
+    whole.fill(0);
+    cnot_min::finish(list, out, terms, steps, s)
 }
 
 // An accepted list: of each room only the part that is needed is lent on, so nothing beyond it is ever written.
 fn minimize(
     list: &[i32],
     wires: usize,
-    bits: usize,
     out: &mut [i32],
     terms: &mut [u64],
     steps: &mut [u32],
     whole: &mut [i32],
     plan: Plan,
-) -> Answer
-    requires { Taken list.now wires bits (view plan).qubits (length out.old) (length terms.old) (length steps.old) (length whole.old) }
-    ensures { Shortened (view plan) list.now out.old terms.old steps.old whole.old result out.new terms.new steps.new whole.new }
+) -> Counts
+    requires lent { Lent list.now wires (length out.old) (length terms.old) (length steps.old) }
+    requires sized { Sized (view plan) list.now whole.old }
+    ensures { Shortened (view plan) list.now out.old terms.old steps.old whole.old (Ok result) out.new terms.new steps.new whole.new }
 {
     let g = list.len() / GATE_WIDTH;
-    let c = rewrite(
+    rewrite(
         list,
         wires,
         &mut out[..GATE_WIDTH * g],
@@ -71,8 +66,7 @@ fn minimize(
         &mut steps[..STEP_WIDTH * (g + MAX_COLUMNS)],
         &mut whole[..GATE_WIDTH * WHOLE_GATES],
         plan,
-    );
-    Answer::Done(c)
+    )
 }
 
 // Every list, any two caps, any four rooms: refused, and nothing is written; or done.
@@ -86,11 +80,11 @@ pub fn cnot_min_plain(
     terms: &mut [u64],
     steps: &mut [u32],
     whole: &mut [i32],
-) -> Answer
+) -> Result<Counts, Refusal>
     ensures { Plainly list.now wires bits qubit_cap term_cap out.old terms.old steps.old whole.old result out.new terms.new steps.new whole.new }
 {
     let plan = plan::of_caps(qubit_cap, term_cap);
-    let Verdict::Refused(refusal) = plain_check::check(
+    plain_check::check(
         list,
         wires,
         bits,
@@ -99,8 +93,6 @@ pub fn cnot_min_plain(
         terms.len(),
         steps.len(),
         whole.len(),
-    ) else {
-        return minimize(list, wires, bits, out, terms, steps, whole, plan);
-    };
-    Answer::Refused(refusal)
+    )?;
+    Ok(minimize(list, wires, out, terms, steps, whole, plan))
 }

@@ -1,18 +1,19 @@
 -- What the plain engine accepts, the first engine accepts too.
 use mathlib.Core.Path.{◌≡◌, refl, sym, ap, ◌∙◌}
-use mathlib.Core.Logic.{◌≢◌}
 use mathlib.Core.Bool.{Bool, true, false, not, ◌||◌, cond, false≢true}
-use mathlib.Core.List.{List}
+use mathlib.Core.List.{List, [], ◌∷◌}
 use Prim.Native.Nat.{ℕ, zero, suc, ◌*◌, ◌/◌, ◌%◌, ◌≤◌}
 use native.Mathlib.Omega.{arith}
 use lib.Dec.{eqb, ltb}
 use lib.IntN.{ℤ}
 use lib.ListN.{length}
-use borrow.Author.Tests.{eq-eqb, ne_eqb, eqb-true, ltb-false}
+use borrow.Author.Tests.{eqb-true, ltb-false}
 use Rattle.rules.specs.Limits.{width, max_gates, max_wires, max_bits, term_width, step_width, term_entries, step_entries, plain_gates, plain_columns, whole_gates}
-use Rattle.rules.specs.Refusal.{Refusal, Fault, Verdict, accepted, refused, tell, refuse, ruled, faults_from, verdict}
+use Rattle.rules.specs.Refusal.{Refusal, Fault, Verdict, accepted, refused, tell, none, first_number, ruled, faults_from, verdict}
 use Rattle.rules.proofs.Bits.{split}
-use Rattle.rules.proofs.Accepting.{place_of}
+use Rattle.rules.proofs.Accepting.{first-map, place_of}
+use Rattle.gate.specs.declared.Fault.TheVariants.{Length, Gates, Limits, PlainLimits, OutRoom, WorkRooms}
+use Rattle.gate.specs.Tests.{all_told}
 use Rattle.plain_check.specs.Refusing.{whole_plain, plain_verdict, Taken}
 
 not-refused : (r : Refusal) → refused r ≡ accepted → ⊥
@@ -22,13 +23,6 @@ not-refused r e = let z : ◌≡◌ {A = ℕ} 0 1 = cc in omega arith
 past : (f : Fault) (p : ℕ) (v : Verdict) → ruled f p v ≡ accepted → (f.number ≡ 0) × (v ≡ accepted)
 past f p v e = split (eqb f.number 0) (λ t. (eqb-true f.number 0 t, rw t at e)) (λ t. absurd (not-refused _ (rw t at e)))
 
--- a fault decides, or the rest does
-pub ruled-some : (f : Fault) (p : ℕ) (v : Verdict) → f.number ≢ 0 → ruled f p v ≡ refuse f p
-ruled-some f p v h = rw (ne_eqb f.number 0 h)
-
-pub ruled-none : (f : Fault) (p : ℕ) (v : Verdict) → f.number ≡ 0 → ruled f p v ≡ v
-ruled-none f p v h = rw (eq-eqb f.number 0 h)
-
 -- no test fails where the first number is 0
 none_first : (t : Bool) (k n : ℕ) → cond t (suc k) n ≡ 0 → (t ≡ false) × (n ≡ 0)
 none_first true k n e = absurd (omega arith)
@@ -37,6 +31,12 @@ none_first false k n e = (refl, e)
 neither : (s t : Bool) → (s || t) ≡ false → (s ≡ false) × (t ≡ false)
 neither false t h = (refl, h)
 neither true t h = absurd (false≢true (sym h))
+
+-- the tests of a list as a whole, in the code's faults
+pub whole-told : (a b c d e f : Bool)
+    → tell (first_number ((a, 1) ∷ (b, 2) ∷ (c, 3) ∷ (d, 15) ∷ (e, 4) ∷ (f, 5) ∷ []) 0) 0
+    ≡ first_number (all_told ((a, Length) ∷ (b, Gates) ∷ (c, Limits) ∷ (d, PlainLimits) ∷ (e, OutRoom) ∷ (f, WorkRooms) ∷ [])) none
+whole-told a b c d e f = first-map (λ (k : ℕ). tell k 0) ((a, 1) ∷ (b, 2) ∷ (c, 3) ∷ (d, 15) ∷ (e, 4) ∷ (f, 5) ∷ []) 0
 
 -- where the list as a whole has no fault it has none for the first engine, and it is short and narrow with room for every resynthesis
 module _ (l : List ℤ) (w b qubits out terms steps whole : ℕ) where

@@ -5,7 +5,7 @@ ghost use Rattle.std.specs.Prelude.{◌≡◌};
 ghost use Rattle.gate.specs.Verdicts.{verdict_of};
 ghost use Rattle.plain_check.specs.Refusing.{plain_verdict};
 
-use gate::Verdict;
+use gate::{Fault, Refusal};
 use rules::{
     GATE_TERMS, GATE_WIDTH, MAX_BITS, MAX_COLUMNS, MAX_GATES, MAX_WIRES, PLAIN_COLUMNS,
     PLAIN_GATES, STEP_WIDTH, TERM_WIDTH, WHOLE_GATES,
@@ -21,24 +21,23 @@ pub fn check(
     terms: usize,
     steps: usize,
     whole: usize,
-) -> Verdict
+) -> Result<(), Refusal>
     ensures { verdict_of result ≡ plain_verdict list.now wires bits qubits out terms steps whole }
 {
     let n = list.len();
     let g = n / GATE_WIDTH;
     let lent = (terms / TERM_WIDTH < GATE_TERMS * g) | (steps / STEP_WIDTH < g + MAX_COLUMNS);
-    let fails = [
-        n % GATE_WIDTH != 0,
-        MAX_GATES < g,
-        (MAX_WIRES < wires) | (MAX_BITS < bits),
-        (PLAIN_GATES < g) | (PLAIN_COLUMNS < qubits),
-        out < n,
-        lent | (whole < GATE_WIDTH * WHOLE_GATES),
+    let tests = [
+        (n % GATE_WIDTH != 0, Fault::Length),
+        (MAX_GATES < g, Fault::Gates),
+        ((MAX_WIRES < wires) | (MAX_BITS < bits), Fault::Limits),
+        (
+            (PLAIN_GATES < g) | (PLAIN_COLUMNS < qubits),
+            Fault::PlainLimits,
+        ),
+        (out < n, Fault::OutRoom),
+        (lent | (whole < GATE_WIDTH * WHOLE_GATES), Fault::WorkRooms),
     ];
-    let numbers = [1u8, 2, 3, 15, 4, 5];
-    let number = gate::first_of(&fails, &numbers);
-    if number != 0 {
-        return gate::refused(number, 0, 0);
-    }
+    gate::check_whole(&tests)?;
     gate::check_gates(list, wires, bits, g)
 }

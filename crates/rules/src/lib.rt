@@ -31,6 +31,7 @@ pub const PLAIN_COLUMNS: usize = 32;
 pub const WHOLE_GATES: usize = 26400;
 
 // The fragment's codes.
+// Stays: numbers and no enum, since a list's lines and C's callers carry them, and the tests compare them in ranges without a branch.
 pub const CODE_X: u32 = 1;
 
 pub const CODE_T: u32 = 2;

@@ -1,51 +1,16 @@
 -- `gate::check_list` meets its contract.
-use mathlib.Core.Path.{◌≡◌, sym, ap, ◌∙◌}
-use Prim.Native.Nat.{ℕ, zero, ◌/◌}
-use borrow.Author.Rules.{rules}
-use lib.ListN.{length}
-use Rattle.rules.specs.Limits.{width}
-use Rattle.rules.specs.Refusal.{tell, refuse, whole_fault, faults_from, verdict}
-use Rattle.gate.specs.Verdicts.{verdict_of}
-use Rattle.gate.proofs.First.{ruled-some, ruled-none}
+use mathlib.Core.Path.{sym, ap, ◌∙◌}
+use Rattle.std.proofs.lemmas.Result.{err_from_is_err_and}
+use Rattle.rules.specs.Refusal.{Fault, accepted, ruled, verdict}
+use Rattle.gate.proofs.First.{whole-told, ruled-ok, ruled-err}
 use Rattle.gate.proofs.check_list.Goals as goal
 
-pub overflow_mul-fails : goal.overflow_mul-fails
-overflow_mul-fails c = search rules
-
-pub overflow_add-fails : goal.overflow_add-fails
-overflow_add-fails c = search rules
-
-pub slice_bounds-first_of-end : goal.slice_bounds-first_of-end
-slice_bounds-first_of-end c = search rules
-
-pub slice_bounds-first_of-end-2 : goal.slice_bounds-first_of-end-2
-slice_bounds-first_of-end-2 c = search rules
-
-pub first_of-number-requires : goal.first_of-number-requires
-first_of-number-requires c = search rules
-
-pub refused-requires : goal.refused-requires
-refused-requires c = search rules
-
-pub returns-then-number-ne0 : goal.returns-then-number-ne0
+pub returns-in_err-check_whole : goal.returns-in_err-check_whole
 unfolding verdict
-returns-then-number-ne0 c =
-    let a = c.args in
-    let l = a.list.now in
-    let f = whole_fault (length l) (length l / width) a.wires a.bits a.out a.terms a.steps in
-    let k : c.first_of-number.result ≡ f = c.first_of-number.ensures in
-    let r : verdict_of c.refused.result ≡ refuse (tell c.first_of-number.result 0) zero = c.refused.ensures in
-    r ∙ ap (λ (n : ℕ). refuse (tell n 0) zero) k
-    ∙ sym (ruled-some (tell f 0) zero (faults_from l a.wires a.bits (length l / width) zero) (λ e. c.if-number-ne0.true (k ∙ e)))
-
-pub check_gates-requires : goal.check_gates-requires
-check_gates-requires c = search rules
+returns-in_err-check_whole c =
+    let p = err_from_is_err_and c.from_residual.result c.from_residual.ensures.1 in
+    rw (p.1, p.2) (ruled-err _ 0 _ _ (c.in_err-check_whole.ensures ∙ ap (λ (f : Fault). ruled f 0 accepted) (sym (whole-told _ _ _ _ _))))
 
 pub returns : goal.returns
 unfolding verdict
-returns c =
-    let a = c.args in
-    let l = a.list.now in
-    let f = whole_fault (length l) (length l / width) a.wires a.bits a.out a.terms a.steps in
-    let k : c.first_of-number.result ≡ f = c.first_of-number.ensures in
-    c.check_gates.ensures ∙ sym (ruled-none (tell f 0) zero (faults_from l a.wires a.bits (length l / width) zero) (sym k ∙ c.if-number-ne0.false))
+returns c = c.check_gates.ensures ∙ ruled-ok _ 0 _ (c.in_ok-check_whole.ensures ∙ ap (λ (f : Fault). ruled f 0 accepted) (sym (whole-told _ _ _ _ _)))

@@ -1,11 +1,8 @@
--- `gate::first_of` meets its contract.
-use Prim.Native.Nat.{◌-◌, ◌≤◌}
-use lib.ListN.{length}
-use Rattle.gate.proofs.First.{Passed}
+-- `gate::first_of` meets its contract. The loop's invariant: the tests that are left decide what all do.
+use mathlib.Core.Path.{◌≡◌}
+use lib.ListN.{drop}
+use Rattle.gate.specs.Tests.{first}
 use Rattle.gate.proofs.first_of.Given as goal
 
-abbrev pub invariant-loop-i : goal.invariant-loop-i
-invariant-loop-i l = (l.i ≤ length l.fails) × Passed l.fails l.i
-
-abbrev pub decreases-loop-i : goal.decreases-loop-i
-decreases-loop-i l = length l.fails - l.i
+abbrev pub invariant-loop-fails : goal.invariant-loop-fails
+invariant-loop-fails g l = first l.tests ≡ first (drop l.fails-index l.tests)

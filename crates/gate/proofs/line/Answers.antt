@@ -1,28 +1,26 @@
 -- `gate::line` meets its contract.
-use mathlib.Core.Path.{◌∙◌}
+use mathlib.Core.Path.{sym, ◌∙◌, ap}
+use Prim.Native.Nat.{◌<◌, ◌≤◌}
 use native.Mathlib.Omega.{arith}
-use borrow.Author.Rules.{rules}
-use Rattle.gate.proofs.Tests.{read_at}
+use borrow.Author.Tests.{ltb-true, ltb-false}
+use lib.IntN.{pos}
+use lib.ListN.{length}
+use Rattle.std.proofs.lemmas.List.{get_or_read}
+use Rattle.rules.specs.Numbers.{nat_of}
+use Rattle.gate.proofs.Tests.{read_small}
 use Rattle.gate.proofs.Lines.{line-none, line_first}
 use Rattle.gate.proofs.line.Goals as goal
 
-pub returns-then-n-lt-GATE_WIDTH : goal.returns-then-n-lt-GATE_WIDTH
-returns-then-n-lt-GATE_WIDTH c = (line-none c.args.list.now (omega arith), omega arith)
-
-pub overflow_sub-nat : goal.overflow_sub-nat
-overflow_sub-nat c = search rules
-
-pub offset_bounds-list : goal.offset_bounds-list
-offset_bounds-list c = search rules
-
-pub bounds-list : goal.bounds-list
-bounds-list c = search rules
-
-pub nat-requires : goal.nat-requires
-nat-requires c = search rules
-
-pub returns : goal.returns
-returns c =
+pub returns-in-Some : goal.returns-in-Some
+returns-in-Some c =
     let l = c.args.list.now in
-    let r = read_at l 5 _ c.nat-arg-1.given c.nat.ensures in
-    (r.0 ∙ line_first l (omega arith), r.1)
+    let long : 5 < length l = ltb-true 5 (length l) (sym c.in-Some.ensures.lookup.0) in
+    let e = get_or_read l 5 c.in-Some.field-0.now long c.in-Some.ensures.lookup.1 (pos 0) in
+    let r = read_small c.in-Some.field-0.now c.nat.result (search) c.nat.ensures in
+    (r.0 ∙ ap nat_of e ∙ line_first l (omega arith), r.1)
+
+pub returns-in-None : goal.returns-in-None
+returns-in-None c =
+    let l = c.args.list.now in
+    let short : length l ≤ 5 = ltb-false 5 (length l) (sym c.in-None.ensures.lookup.0) in
+    (line-none l (omega arith), omega arith)
