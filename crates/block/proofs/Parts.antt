@@ -52,12 +52,11 @@ behind_more {A} n m xs ys l e =
     let go : (zs : List A) → drop (m - n) (drop n zs) ≡ drop m zs = λ zs. drop-drop (m - n) n zs ∙ ap (λ (k : ℕ). drop k zs) s in
     sym (go xs) ∙ ap (drop (m - n)) e ∙ go ys
 
-pub behind-same : (b r : Block) (names : List ℕ) (rows : List Parity) (names' : List ℕ) (rows' : List Parity) → r.wires ≡ b.wires → Behind b names rows names' rows' → Behind r names rows names' rows'
-behind-same b r names rows names' rows' e h = record { names-rest = rw e h.names-rest; rows-rest = rw e h.rows-rest }
+pub behind-same : (b e r : Block) → r.wires ≡ e.wires → r.names ≡ e.names → drop e.wires r.rows ≡ drop e.wires e.rows → Behind b e → Behind b r
+behind-same b e r w n m h = record { names-rest = rw (w, n) h.names-rest; rows-rest = rw w (m ∙ h.rows-rest) }
 
-pub behind-on : (b r : Block) (names : List ℕ) (rows : List Parity) (names' : List ℕ) (rows' : List Parity) (names'' : List ℕ) (rows'' : List Parity) → b.wires ≤ r.wires
-    → Behind b names rows names' rows' → Behind r names' rows' names'' rows'' → Behind r names rows names'' rows''
-behind-on b r names rows names' rows' names'' rows'' l h k = record {
-  names-rest = k.names-rest ∙ behind_more b.wires r.wires names' names l h.names-rest;
-  rows-rest = k.rows-rest ∙ behind_more b.wires r.wires rows' rows l h.rows-rest;
+pub behind-on : (b e r : Block) → e.wires ≤ r.wires → Behind b e → Behind e r → Behind b r
+behind-on b e r l h k = record {
+  names-rest = k.names-rest ∙ behind_more e.wires r.wires e.names b.names l h.names-rest;
+  rows-rest = k.rows-rest ∙ behind_more e.wires r.wires e.rows b.rows l h.rows-rest;
 }
