@@ -109,7 +109,7 @@ module _ (n : ℕ) (os : List Op) (b : AllBelow n os) where
   turns-are s = phases-load n s os (begin n) s b (begin-shows n s)
 
 -- two tests of one thing
-agree : (a b : Bool) → (a ≡ true → b ≡ true) → (b ≡ true → a ≡ true) → a ≡ b
+pub agree : (a b : Bool) → (a ≡ true → b ≡ true) → (b ≡ true → a ≡ true) → a ≡ b
 agree true b f g = sym (f refl)
 agree false true f g = g refl
 agree false false f g = refl

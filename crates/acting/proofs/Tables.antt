@@ -1,6 +1,6 @@
 -- A table of rows holds what the wires hold, and the turns weigh what the gates add.
 use mathlib.Core.Path.{◌≡◌, refl, sym, ap, ap₂, ◌∙◌}
-use mathlib.Core.Bool.{Bool, true, false, ◌&&◌, cond}
+use mathlib.Core.Bool.{Bool, true, false, ◌&&◌, cond, and-false, and_comm}
 use mathlib.Core.List.{List, [], ◌∷◌, ◌++◌}
 use Prim.Native.Nat.{ℕ, zero, ◌+◌, ◌-◌, ◌%◌, ◌^◌, ◌<◌}
 use native.Mathlib.Omega.{arith}
@@ -16,16 +16,6 @@ use Rattle.acting.specs.Table.{Table, begin, act, table_of, turns, turns_of, tot
 use Rattle.acting.proofs.Differences.{unit}
 
 -- ---- a parity of the zeros, of a single one, of a sum
-
-pub and-false : (a : Bool) → (a && false) ≡ false
-and-false true = refl
-and-false false = refl
-
-pub and_comm : (a b : Bool) → (a && b) ≡ (b && a)
-and_comm true true = refl
-and_comm true false = refl
-and_comm false true = refl
-and_comm false false = refl
 
 pub dot-zeros : (n p : ℕ) → dot n p zeros ≡ false
 unfolding dot

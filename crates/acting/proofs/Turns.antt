@@ -1,7 +1,7 @@
 -- Turns that add nothing anywhere: the sums by one, two and three wires decide.
 use mathlib.Core.Path.{◌≡◌, refl, sym, ap, ap₂, ◌∙◌, fun_ext}
 use mathlib.Core.Logic.{◌↔◌}
-use mathlib.Core.Bool.{Bool, true, false, ◌&&◌}
+use mathlib.Core.Bool.{Bool, true, false, ◌&&◌, and-false}
 use mathlib.Core.List.{List, [], ◌∷◌}
 use Prim.Native.Nat.{ℕ, zero, suc, ◌+◌, ◌*◌, ◌/◌, ◌%◌, ◌≤◌, ◌<◌}
 use native.Mathlib.Nat.{le_refl, le-suc, le_trans, mul-mod_right, add_comm}
@@ -16,7 +16,7 @@ use Rattle.acting.specs.Alike.{Setting, zeros, each}
 use Rattle.acting.specs.Table.{total, quiet}
 use Rattle.acting.proofs.Differences.{◌⊞◌, unit, cut, cut-zero, cut-without, cut-with}
 use Rattle.acting.proofs.Deciding.{each-true, true-each}
-use Rattle.acting.proofs.Tables.{and-false, dot-zeros, dot-one}
+use Rattle.acting.proofs.Tables.{dot-zeros, dot-one}
 
 pub dot-plus : (n p : ℕ) (s u : Setting) → dot n p (s ⊞ u) ≡ (dot n p s ⊕ dot n p u)
 unfolding dot

@@ -19,7 +19,7 @@ use Rattle.lanes.specs.Lanes.{None, Holds, Notes, settled_of, Settles}
 use Rattle.lanes.specs.declared.Lanes.{Lanes}
 use Rattle.lanes.proofs.Noting.{holds-none}
 use Rattle.lanes.proofs.Settling.{settled-quiet}
-use Rattle.compare.specs.View.{ops_of, backed, Fine, Passes, wire_test}
+use Rattle.compare.specs.View.{ops_of, backed, Passes, wire_test}
 use Rattle.compare.proofs.Acting.{table}
 use Rattle.compare.proofs.Running.{backed-append}
 
@@ -28,15 +28,8 @@ use Rattle.compare.proofs.Running.{backed-append}
 pub rows-length : (a b : List Parity) → length b ≡ length a → length (rows_of b) ≡ length (rows_of a)
 rows-length a b e = row_count b ∙ e ∙ sym (row_count a)
 
-module _ (a b : List Parity) (e : length b ≡ length a) where
-  pub fine-as : (l : List ℤ) → Fine l (length (rows_of a)) → Fine l (length (rows_of b))
-  fine-as l f = rw (rows-length a b e) f
-
-  pub few-as : length (rows_of a) ≤ max_columns → length (rows_of b) ≤ max_columns
-  few-as h = rw (rows-length a b e) h
-
-  pub test-as : (us vs : List ℤ) (i : ℕ) (r : Bool) → r ≡ wire_test (length (rows_of b)) us vs i → r ≡ wire_test (length (rows_of a)) us vs i
-  test-as us vs i r h = h ∙ ap (λ (z : ℕ). wire_test z us vs i) (rows-length a b e)
+pub test-as : (a b : List Parity) → length b ≡ length a → (us vs : List ℤ) (i : ℕ) (r : Bool) → r ≡ wire_test (length (rows_of b)) us vs i → r ≡ wire_test (length (rows_of a)) us vs i
+test-as a b e us vs i r h = h ∙ ap (λ (z : ℕ). wire_test z us vs i) (rows-length a b e)
 
 pub from-begin : (os : List Op) (i : ℕ) (back : Bool) (held : List ℕ) (f w : ℕ) (s : Lanes) (b' : Table) (s' : Lanes)
     → Passes os i back (table held f) s b' s' → held ≡ units w zero → f ≡ zero → Passes os i back (begin w) s b' s'

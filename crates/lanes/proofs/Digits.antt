@@ -1,7 +1,7 @@
 -- Columns of a parity: those of one word below a wire, none below a wire, and a parity added to the rows that are chosen.
 use mathlib.Core.Path.{◌≡◌, refl, sym, ap, ap₂, ◌∙◌}
 use mathlib.Core.Logic.{◌≢◌}
-use mathlib.Core.Bool.{Bool, true, false, not, ◌&&◌, cond, false≢true}
+use mathlib.Core.Bool.{Bool, true, false, not, ◌&&◌, cond, and-true, and-false, false≢true}
 use mathlib.Core.List.{List}
 use Prim.Native.Nat.{ℕ, zero, suc, ◌+◌, ◌-◌, ◌*◌, ◌%◌, ◌^◌, ◌≤◌, ◌<◌}
 use native.Mathlib.Nat.{le_refl, pow-suc, lt_of_not-le}
@@ -17,21 +17,9 @@ use Rattle.parity.specs.Columns.{clear_lowest, Lowest}
 use Rattle.parity.proofs.Laws.{bit_high, bit-clear, xor_zero_r}
 use Rattle.parity.proofs.Words.{low_bit, high_bit}
 use Rattle.acting.specs.Alike.{each}
+use Rattle.acting.proofs.Computing.{agree}
 use Rattle.acting.proofs.Deciding.{each-true, true-each}
 use Rattle.lanes.specs.Lanes.{half, near, Inside, Beside, Adds}
-
-pub and-true : (b : Bool) → (b && true) ≡ b
-and-true true = refl
-and-true false = refl
-
-pub and_none : (b : Bool) → (b && false) ≡ false
-and_none true = refl
-and_none false = refl
-
-pub agree : (a b : Bool) → (a ≡ true → b ≡ true) → (b ≡ true → a ≡ true) → a ≡ b
-agree true b f g = sym (f refl)
-agree false true f g = g refl
-agree false false f g = refl
 
 -- the columns 0 to n - 1 and no other
 ones-high : (n k : ℕ) → n ≤ k → bit (2 ^ n - 1) k ≡ false
@@ -61,10 +49,7 @@ beside hi lo i w a r l m ew ea h = record { low = low; inside = record { none = 
         ∙ and-true (bit w j) ∙ own j k
 
     high : (j : ℕ) → i % half ≤ j → bit r j ≡ false
-    high j k = h j ∙ ap (λ (y : Bool). bit (0 * 2 ^ 64 + w) j && y) (ap (λ (u : ℕ). bit u j) ea ∙ ones-high (i % half) j k) ∙ and_none (bit (0 * 2 ^ 64 + w) j)
-
-pub inside-more : (p m n : ℕ) → m ≤ n → Inside p m → Inside p n
-inside-more p m n l h = record { none = λ j k. h.none j (omega arith) }
+    high j k = h j ∙ ap (λ (y : Bool). bit (0 * 2 ^ 64 + w) j && y) (ap (λ (u : ℕ). bit u j) ea ∙ ones-high (i % half) j k) ∙ and-false (bit (0 * 2 ^ 64 + w) j)
 
 -- no column below n
 pub none_below : (o m a n : ℕ) → a ≡ 2 ^ n - 1 → ((i : ℕ) → bit m i ≡ (bit o i && bit a i)) → eqb m 0 ≡ each n (λ k. not (bit o k))
@@ -84,7 +69,7 @@ none_below o m a n e h = agree (eqb m 0) (each n (λ k. not (bit o k))) to from
     from t =
         eq-eqb m 0 (none-set m m (lt-pow m) (λ k l. h k ∙ split (ltb k n)
         (λ u. ap (λ (b : Bool). b && bit a k) (not-true (bit o k) (each-true n (λ k. not (bit o k)) t k (ltb-true k n u))))
-        (λ u. ap (λ (b : Bool). bit o k && b) (ap (λ (z : ℕ). bit z k) e ∙ ones-high n k (ltb-false k n u)) ∙ and_none (bit o k))))
+        (λ u. ap (λ (b : Bool). bit o k && b) (ap (λ (z : ℕ). bit z k) e ∙ ones-high n k (ltb-false k n u)) ∙ and-false (bit o k))))
 
 -- ---- a parity added to the rows that are chosen, from the lowest up
 

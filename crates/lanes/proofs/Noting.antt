@@ -1,6 +1,6 @@
 -- A turn on a parity, noted: what the sums then are.
 use mathlib.Core.Path.{◌≡◌, refl, sym, ap, ap₂, ◌∙◌}
-use mathlib.Core.Bool.{Bool, true, false, ◌&&◌, cond}
+use mathlib.Core.Bool.{Bool, true, false, ◌&&◌, cond, and-true, and-false}
 use mathlib.Core.List.{List, [], ◌∷◌, ◌++◌, append_assoc, append-nil}
 use Prim.Native.Nat.{ℕ, zero, suc, ◌+◌, ◌/◌, ◌%◌, ◌<◌}
 use native.Mathlib.Nat.{mod-lt, zero-lt-suc}
@@ -18,7 +18,6 @@ use Rattle.acting.specs.Table.{total}
 use Rattle.acting.proofs.Tables.{total-append}
 use Rattle.lanes.specs.Lanes.{half, near, Beside, term, two, three, odd, Holds, Adds, None, Notes}
 use Rattle.lanes.specs.declared.Lanes.{Lanes}
-use Rattle.lanes.proofs.Digits.{and-true, and_none}
 
 -- ---- digits of a sum
 
@@ -61,13 +60,13 @@ one_bit false p j = bit-zero j
 picks : (x y : Bool) (k : ℕ) → (odd (when1 x k) && y) ≡ odd (when1 (x && y) k)
 unfolding odd
 picks true true k = and-true (eqb (k % 2) 1)
-picks true false k = and_none (eqb (k % 2) 1)
+picks true false k = and-false (eqb (k % 2) 1)
 picks false y k = refl
 
 picks-half : (x y : Bool) (k : ℕ) → (odd (when1 x k / 2) && y) ≡ odd (when1 (x && y) k / 2)
 unfolding odd
 picks-half true true k = and-true (eqb (k / 2 % 2) 1)
-picks-half true false k = and_none (eqb (k / 2 % 2) 1)
+picks-half true false k = and-false (eqb (k / 2 % 2) 1)
 picks-half false y k = refl
 
 picks-two : (x y z : Bool) (k : ℕ) → (odd (when1 (x && y) k) && z) ≡ odd (when1 (x && y && z) k)

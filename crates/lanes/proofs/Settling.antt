@@ -25,7 +25,7 @@ use Rattle.acting.proofs.Deciding.{each-true, true-each}
 use Rattle.acting.proofs.Turns.{Even, quiet-even, even-quiet, total_ext}
 use Rattle.lanes.specs.Lanes.{half, near, two, three, odd, Holds, even_rows, settled_of, Settles}
 use Rattle.lanes.specs.declared.Lanes.{Lanes}
-use Rattle.lanes.proofs.Digits.{agree}
+use Rattle.acting.proofs.Computing.{agree}
 
 -- ---- all of a range
 

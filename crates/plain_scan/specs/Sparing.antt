@@ -5,7 +5,6 @@ use Rattle.rules.specs.Counts.{twos}
 use Rattle.rules.specs.Plan.{Plan}
 use Rattle.rules.specs.Scan.{Writer}
 use Rattle.block.specs.declared.Block as State
-use Rattle.flush.specs.Choice.{Workroom}
 use Rattle.scan.specs.Scanning as Scanning
 use Rattle.scan.specs.Scanning.{gates_in, run}
 use Rattle.plain_flush.specs.Keeping.{additions}
@@ -22,11 +21,10 @@ pub record Roomy (p : Plan) (l : List ℤ) (adds : List ℕ) (whole : List ℤ) 
   pub sized : Sized p l whole
   pub noted : additions ≤ length adds
 
--- the list is short, the block narrow; rooms for the engine, whatever the block
-pub record Spared (l : List ℤ) (b : State.Block) (nodes from spare adds : List ℕ) (whole : List ℤ) : Type 0 where
+-- the list is short, the block narrow; rooms for the resynthesis, whatever the block
+pub record Spared (l : List ℤ) (b : State.Block) (adds : List ℕ) (whole : List ℤ) : Type 0 where
   pub few : gates_in l ≤ plain_gates
   pub narrow : b.wires ≤ plain_columns
-  pub work : Workroom nodes from spare
   pub noted : additions ≤ length adds
   pub long : width * whole_gates ≤ length whole
 

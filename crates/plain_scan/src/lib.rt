@@ -8,13 +8,12 @@ ghost use Rattle.plain_scan.specs.Sparing.{Sized, Roomy, Spared, Closes};
 
 use block::Block;
 use flush::STACK;
+use parity::Parity;
 use plain_flush::Kept;
 use plan::Plan;
 use rules::{GATE_WIDTH, MAX_COLUMNS, PLAIN_COLUMNS};
 use scan::Tally;
-
-// Words of a matrix for the widest block.
-const MATRIX: usize = 2 * MAX_COLUMNS;
+use walk::Slot;
 
 // Numbers for the additions of the widest closing map, which are more than a lent step room has, and for one addition more.
 const ADDITIONS: usize = 2 * (PLAIN_COLUMNS * PLAIN_COLUMNS + 1);
@@ -29,17 +28,17 @@ fn close(
     m: usize,
     table: &mut [u32],
     names: &[u32],
-    rows: &[u64],
+    rows: &[Parity],
     room: &mut [u64],
-    nodes: &mut [u64],
-    held: &mut [u64],
-    right: &mut [u64],
+    nodes: &mut [Slot; STACK],
+    held: &mut [Parity; MAX_COLUMNS],
+    right: &mut [Parity; MAX_COLUMNS],
     adds: &mut [u32],
     whole: &mut [i32],
     plan: Plan,
 ) -> Kept
     requires closable { Closable list.now start end block out.old m table.old names.now rows.now room.old }
-    requires spared { Spared list.now block nodes.old held.old right.old adds.old whole.old }
+    requires spared { Spared list.now block adds.old whole.old }
     ensures { Closes (writer_of (view plan)) list.now start end out.old m out.new table.new result }
 {
     let from = GATE_WIDTH * start;
@@ -67,11 +66,11 @@ fn piece(
     list: &[i32],
     s: Tally,
     table: &mut [u32],
-    names: &mut [u32],
-    rows: &mut [u64],
-    nodes: &mut [u64],
-    held: &mut [u64],
-    right: &mut [u64],
+    names: &mut [u32; MAX_COLUMNS],
+    rows: &mut [Parity; MAX_COLUMNS],
+    nodes: &mut [Slot; STACK],
+    held: &mut [Parity; MAX_COLUMNS],
+    right: &mut [Parity; MAX_COLUMNS],
     adds: &mut [u32],
     out: &mut [i32],
     room: &mut [u64],
@@ -79,7 +78,7 @@ fn piece(
     whole: &mut [i32],
     plan: Plan,
 ) -> Tally
-    requires ready { Ready (writer_of (view plan)) (view plan) list.now s table.old names.old rows.old nodes.old held.old right.old out.old room.old steps.old }
+    requires ready { Ready (writer_of (view plan)) (view plan) list.now s table.old out.old room.old steps.old }
     requires roomy { Roomy (view plan) list.now adds.old whole.old }
     ensures { Advances (writer_of (view plan)) (view plan) list.now s result out.new table.new }
 {
@@ -97,13 +96,13 @@ fn piece(
     let end = run.end;
     if end == s.at {
         scan::copy_gate(list, end, out, s.gates);
-        return scan::copied(s);
+        return s.copied();
     }
     let k = close(
         list, s.at, end, run.block, out, s.gates, table, &*names, &*rows, room, nodes, held, right,
         adds, whole, plan,
     );
-    scan::closed(s, end, k.flushed)
+    s.closed(end, k.flushed)
 }
 
 // The whole list, piece by piece. What is left in `room`, in `steps`, in `whole` and behind the result is the caller's to clear.
@@ -122,17 +121,12 @@ pub fn scan(
 {
     let n = list.len() / GATE_WIDTH;
     let mut names = [0u32; MAX_COLUMNS];
-    let mut rows = [0u64; MATRIX];
-    let mut nodes = [0u64; STACK];
-    let mut held = [0u64; MATRIX];
-    let mut right = [0u64; MATRIX];
+    let mut rows = [Parity::zero(); MAX_COLUMNS];
+    let mut nodes = [Slot::first(Parity::zero()); STACK];
+    let mut held = [Parity::zero(); MAX_COLUMNS];
+    let mut right = [Parity::zero(); MAX_COLUMNS];
     let mut adds = [0u32; ADDITIONS];
-    let mut s = Tally {
-        at: 0,
-        gates: 0,
-        blocks: 0,
-        replaced: 0,
-    };
+    let mut s = Tally::new();
     while s.at < n {
         s = piece(
             list,

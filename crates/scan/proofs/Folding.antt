@@ -22,6 +22,7 @@ use Rattle.rules.proofs.Reading.{from-append, from-length}
 use Rattle.rules.proofs.Accepting.{fit_at}
 use Rattle.rules.proofs.Bounds.{fold-snoc, length-terms}
 use Rattle.rules.proofs.Scanning.{takes-narrow}
+use Rattle.parity.specs.declared.Parity.{Parity}
 use Rattle.terms.specs.Terms.{terms_of}
 use Rattle.gate.specs.Writing.{gate_of}
 use Rattle.gate.specs.Reading.{Reads}
@@ -110,7 +111,7 @@ pub cut_on : (p : Plan) (l : List ℤ) (i j : ℕ) → i ≤ j → j < gates_in 
     → cut p (run l i j) (rest l j) ≡ cut p (run l i (j + 1)) (rest l (j + 1))
 cut_on p l i j h k e = rw (rest-next l j k, run-next l i j h) (cut-one p (run l i j) (gate_at l j) (rest l (j + 1)) e)
 
-module _ (l : List ℤ) (table names rows room : List ℕ) where
+module _ (l : List ℤ) (table names : List ℕ) (rows : List Parity) (room : List ℕ) where
   pub start : (i : ℕ) (b : State.Block) → Empty b → Clear l table room → Wide names rows → Holds (folded l i i) b table names rows room
   start i b e c w = rw (folded-none l i) (empty_holds b table names rows room e c.clear w.named w.rowed)
 
@@ -136,7 +137,7 @@ module _ (l : List ℤ) (table names rows room : List ℕ) where
       ap (λ (o : Op). takes p o (folded l i j)) (sym (op-read (gate_at l j) g d)) ∙ ap (takes p (op (gate_of g))) (sym (holds_same h)) ∙ sym (f names (holds-sound h).rows_are)
 
   -- the gate that was read, folded
-  pub next : (i j : ℕ) (g : Gate) (b r : State.Block) (table' names' rows' room' : List ℕ) → i ≤ j → Reads (gate_at l j) g → Holds (folded l i j) b table names rows room
+  pub next : (i j : ℕ) (g : Gate) (b r : State.Block) (table' names' : List ℕ) (rows' : List Parity) (room' : List ℕ) → i ≤ j → Reads (gate_at l j) g → Holds (folded l i j) b table names rows room
       → Holds (Fold.absorb (op (gate_of g)) (block_at b names rows room)) r table' names' rows' room' → Holds (folded l i (j + 1)) r table' names' rows' room'
   next i j g b r table' names' rows' room' o d h k =
       rw (folded-next l i j o, ← op-read (gate_at l j) g d, ← holds_same h) k
@@ -148,16 +149,8 @@ pub record Front (steps : List ℕ) (r : ℕ) : Type 0 where
   pub long : length (take r steps) ≡ r
   pub headed : Headed (take r steps)
 
-pub front : (steps : List ℕ) (r : ℕ) → r ≡ cond (ltb (length steps) most_heads) (length steps) most_heads → 0 < length steps → Front steps r
-front steps r e p = split (ltb (length steps) most_heads) (λ t. small (ltb-true _ _ t) (rw t at e)) (λ t. large (ltb-false _ _ t) (rw t at e))
-  where
-    made : r ≤ length steps → 0 < r → r ≤ most_heads → Front steps r
-    made a b d =
-        let l : length (take r steps) ≡ r = length-take-le r steps a in
-        record { within = a; long = l; headed = record { some = rw l b; few = rw l (omega arith) } }
-
-    small : length steps < most_heads → r ≡ length steps → Front steps r
-    small h q = made (omega arith) (omega arith) (omega arith)
-
-    large : most_heads ≤ length steps → r ≡ most_heads → Front steps r
-    large h q = made (omega arith) (omega arith) (omega arith)
+pub front : (steps : List ℕ) (r : ℕ) → r ≡ min (length steps) most_heads → 0 < length steps → Front steps r
+front steps r e p =
+    let a : r ≤ length steps = omega arith in
+    let l : length (take r steps) ≡ r = length-take-le r steps a in
+    record { within = a; long = l; headed = record { some = rw l (omega arith); few = rw l (omega arith) } }

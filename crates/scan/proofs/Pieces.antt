@@ -21,8 +21,7 @@ use Rattle.rules.proofs.Reading.{numbers-append, from-length}
 use Rattle.rules.proofs.Passing.{chosen-thrifty, thrifty-le}
 use Rattle.rules.proofs.Scanning.{nothing, alone, onto, shut, onto-none, none-onto, scan-end, scan-on, scan-anew, scan-alone}
 use Rattle.scan.specs.Scanning.{gates_in, run, rest, made, onward, Checked, Unjoined, Stops, Closes, Low, Stands, Advances, Scans}
-use Rattle.rows.specs.Rows.{rows_of}
-use Rattle.rows.proofs.Room.{row_count}
+use Rattle.parity.specs.declared.Parity.{Parity}
 use Rattle.block.specs.View.{Holds}
 use Rattle.block.specs.declared.Block as State
 use Rattle.block.proofs.Entering.{wires-are}
@@ -85,12 +84,8 @@ module _ (write : Writer) (p : Plan) (l : List ℤ) (i : ℕ) where
   pub chosen-run : (j : ℕ) → length (chosen write (run l i j)) ≤ j - i
   chosen-run j = omega (arith, (thrifty-le (chosen-thrifty write (run l i j))).0, from-length l (j - i) i)
 
--- two words a row
-pub rows-wide : (xs : List ℕ) → length xs ≡ 2 * max_columns → max_columns ≤ length (rows_of xs)
-rows-wide xs e = omega (arith, row_count xs)
-
 -- an empty run has joined no wire
-none-clear : (l : List ℤ) (i : ℕ) {b : State.Block} {table names rows room : List ℕ} → Holds (block_of (run l i i)) b table names rows room → Unjoined table
+none-clear : (l : List ℤ) (i : ℕ) {b : State.Block} {table names : List ℕ} {rows : List Parity} {room : List ℕ} → Holds (block_of (run l i i)) b table names rows room → Unjoined table
 none-clear l i {b} {table} h w = by (get_or table w 0) refl
   where
     none : b.wires ≡ 0
@@ -128,7 +123,7 @@ advance write p l s r out out' d st e h k few one less text gates blocks replace
   replaced = omega (arith, ap (λ (x : Result). x.replaced) e, st.replaced);
 }
 
-module _ (write : Writer) (p : Plan) (l : List ℤ) (s r : Tally) (out out' : List ℤ) (f : Run) {table names rows room : List ℕ}
+module _ (write : Writer) (p : Plan) (l : List ℤ) (s r : Tally) (out out' : List ℤ) (f : Run) {table names : List ℕ} {rows : List Parity} {room : List ℕ}
     (st : Stands write p l s out) (stop : Stops p l s.at f table names rows room) where
   -- the run is empty: the gate was copied
   pub copied-stands : f.end ≡ s.at → s.at < gates_in l → made out' (suc s.gates) ≡ made out s.gates ++ numbers (gate_at l f.end)

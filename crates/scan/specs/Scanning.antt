@@ -8,11 +8,12 @@ use Rattle.rules.specs.Refusal.{fault_at}
 use Rattle.rules.specs.Synth.{block_of}
 use Rattle.rules.specs.Plan.{Plan}
 use Rattle.rules.specs.Scan.{takes, cut, Writer, chosen, replaces, Result, finish, pass_by}
+use Rattle.parity.specs.declared.Parity.{Parity}
 use Rattle.terms.specs.Terms.{terms_of}
 use Rattle.rows.specs.Rows.{rows_of}
 use Rattle.block.specs.View.{Holds}
 use Rattle.block.specs.declared.Block.{Block}
-use Rattle.flush.specs.Choice.{Exact, Workroom}
+use Rattle.flush.specs.Choice.{Exact}
 use Rattle.flush.specs.declared.Flushed.{Flushed}
 use Rattle.scan.specs.declared.Run.{Run}
 use Rattle.scan.specs.declared.Tally.{Tally}
@@ -41,13 +42,12 @@ pub record Clear (l : List ℤ) (table room : List ℕ) : Type 0 where
   pub terms : term_entries (gates_in l) ≤ length (terms_of room)
 
 -- there is room for the rows and their names
-pub record Wide (names rows : List ℕ) : Type 0 where
+pub record Wide (names : List ℕ) (rows : List Parity) : Type 0 where
   pub named : max_columns ≤ length names
   pub rowed : max_columns ≤ length (rows_of rows)
 
--- rooms for the engine, and steps for the list's gates
-pub record Spared (l : List ℤ) (nodes from spare steps : List ℕ) : Type 0 where
-  pub work : Workroom nodes from spare
+-- steps for the list's gates
+pub record Spared (l : List ℤ) (steps : List ℕ) : Type 0 where
   pub long : step_width * step_entries (gates_in l) ≤ length steps
 
 -- heads of an index at most
@@ -70,7 +70,7 @@ abbrev pub rest : List ℤ → ℕ → List Gate
 rest l i = run l i (gates_in l)
 
 -- a block can start at place i: the list is checked, the plan clamped, the rooms are clear and wide enough
-pub record Foldable (p : Plan) (l : List ℤ) (i : ℕ) (table names rows room : List ℕ) : Type 0 where
+pub record Foldable (p : Plan) (l : List ℤ) (i : ℕ) (table names : List ℕ) (rows : List Parity) (room : List ℕ) : Type 0 where
   pub checked : Checked l (length table)
   pub capped : p.qubits ≤ max_columns
   pub inside : i ≤ gates_in l
@@ -78,7 +78,7 @@ pub record Foldable (p : Plan) (l : List ℤ) (i : ℕ) (table names rows room :
   pub wide : Wide names rows
 
 -- the block took the gates up to the run's end within the qubit cap, and can't take the next
-pub record Stops (p : Plan) (l : List ℤ) (i : ℕ) (r : Run) (table names rows room : List ℕ) : Type 0 where
+pub record Stops (p : Plan) (l : List ℤ) (i : ℕ) (r : Run) (table names : List ℕ) (rows : List Parity) (room : List ℕ) : Type 0 where
   pub onward : i ≤ r.end
   pub inside : r.end ≤ gates_in l
   pub holds : Holds (block_of (run l i r.end)) r.block table names rows room
@@ -93,7 +93,7 @@ abbrev pub made : List ℤ → ℕ → List ℤ
 made out m = take (width * m) out
 
 -- the run lies in the list, and its place behind the m gates in the output; state and rooms hold its block
-pub record Closable (l : List ℤ) (i j : ℕ) (b : Block) (out : List ℤ) (m : ℕ) (table names rows room : List ℕ) : Type 0 where
+pub record Closable (l : List ℤ) (i j : ℕ) (b : Block) (out : List ℤ) (m : ℕ) (table names : List ℕ) (rows : List Parity) (room : List ℕ) : Type 0 where
   pub checked : Checked l (length table)
   pub onward : i ≤ j
   pub inside : j ≤ gates_in l
@@ -141,9 +141,11 @@ pub record Stands (write : Writer) (p : Plan) (l : List ℤ) (s : Tally) (out : 
   pub replaced : s.replaced + (onward write p l s.at).replaced ≡ (onward write p l 0).replaced
 
 -- another piece can be written behind those that stand in the output
-pub record Ready (write : Writer) (p : Plan) (l : List ℤ) (s : Tally) (table names rows nodes from spare : List ℕ) (out : List ℤ) (room steps : List ℕ) : Type 0 where
-  pub foldable : Foldable p l s.at table names rows room
-  pub spared : Spared l nodes from spare steps
+pub record Ready (write : Writer) (p : Plan) (l : List ℤ) (s : Tally) (table : List ℕ) (out : List ℤ) (room steps : List ℕ) : Type 0 where
+  pub checked : Checked l (length table)
+  pub capped : p.qubits ≤ max_columns
+  pub clear : Clear l table room
+  pub spared : Spared l steps
   pub stands : Stands write p l s out
   pub more : s.at < gates_in l
   pub fits : length out ≡ length l

@@ -1,7 +1,7 @@
 // The scan: the list cut into blocks and copied gates, each block written again where that is cheaper, the result side by side in the output.
 #![tactic(auto)]
 
-ghost use Rattle.std.specs.Prelude.{◌≡◌, cond, ◌++◌, suc, ◌+◌, ◌≤◌, ltb};
+ghost use Rattle.std.specs.Prelude.{◌≡◌, cond, ◌++◌, suc, ◌+◌, ◌≤◌, min};
 ghost use Rattle.rules.specs.Limits.{max_gates};
 ghost use Rattle.rules.specs.Numbers.{gate_at, numbers};
 ghost use Rattle.rules.specs.Pass.{writer_of};
@@ -10,14 +10,13 @@ ghost use Rattle.scan.specs.Scanning.{made, most_heads, Spared, Headed, Foldable
 
 use block::Block;
 use flush::{Flushed, STACK};
+use parity::Parity;
 use plan::Plan;
 use rules::{GATE_WIDTH, MAX_COLUMNS};
+use walk::Slot;
 
 // Heads of an index at most: 16 KB of numbers, so that they stay near.
 pub const HEADS: usize = 4096;
-
-// Words of a matrix for the widest block.
-const MATRIX: usize = 2 * MAX_COLUMNS;
 
 // The block of a run of gates, and the place behind the run.
 #[derive(Clone, Copy)]
@@ -35,13 +34,52 @@ pub struct Tally {
     pub replaced: usize,
 }
 
+impl Tally {
+    // Before the first gate.
+    pub fn new() -> Tally
+        ensures { result ≡ record { at = 0; gates = 0; blocks = 0; replaced = 0 } }
+    {
+        Tally {
+            at: 0,
+            gates: 0,
+            blocks: 0,
+            replaced: 0,
+        }
+    }
+
+    // A gate more, copied outside any block.
+    pub fn copied(self) -> Tally
+        requires { Low self }
+        ensures { result ≡ record { at = self.at + 1; gates = self.gates + 1; blocks = self.blocks; replaced = self.replaced } }
+    {
+        Tally {
+            at: self.at + 1,
+            gates: self.gates + 1,
+            ..self
+        }
+    }
+
+    // A block more, which ends at `end`.
+    pub fn closed(self, end: usize, f: Flushed) -> Tally
+        requires { Low self × (f.gates ≤ max_gates) }
+        ensures { result ≡ record { at = end; gates = self.gates + f.gates; blocks = self.blocks + 1; replaced = self.replaced + cond f.replaced 1 0 } }
+    {
+        Tally {
+            at: end,
+            gates: self.gates + f.gates,
+            blocks: self.blocks + 1,
+            replaced: self.replaced + usize::from(f.replaced),
+        }
+    }
+}
+
 // The gates from `start` on, folded onto an empty block as far as it takes them. `heads` are for the index of its terms, and may hold any numbers.
 pub fn fold_run(
     list: &[i32],
     start: usize,
     table: &mut [u32],
     names: &mut [u32],
-    rows: &mut [u64],
+    rows: &mut [Parity],
     room: &mut [u64],
     plan: Plan,
     heads: &mut [u32],
@@ -51,15 +89,14 @@ pub fn fold_run(
     ensures { Stops (view plan) list.now start result table.new names.new rows.new room.new }
 {
     let n = list.len() / GATE_WIDTH;
-    let mut b = block::empty();
-    let mut i = start;
-    while i < n {
+    let mut b = Block::empty();
+    for i in start..n {
         let g = gate::read(list, i);
         if !taking::takes(b, g, &*table, &*rows, &*room, plan, &*heads) {
             return Run { block: b, end: i };
         }
-        b = absorb::absorb(
-            b,
+        absorb::absorb(
+            &mut b,
             g,
             &mut *table,
             &mut *names,
@@ -67,16 +104,15 @@ pub fn fold_run(
             &mut *room,
             &mut *heads,
         );
-        i += 1;
     }
-    Run { block: b, end: i }
+    Run { block: b, end: n }
 }
 
 // How many heads stand at the front of a step room, which is free while a block is folded.
 pub fn heads_in(n: usize) -> usize
-    ensures { result ≡ cond (ltb n most_heads) n most_heads }
+    ensures { result ≡ min n most_heads }
 {
-    if n < HEADS { n } else { HEADS }
+    n.min(HEADS)
 }
 
 // The run from gate `start` to `end`, whose block is folded, written behind the m gates of the output.
@@ -89,16 +125,16 @@ fn close(
     m: usize,
     table: &mut [u32],
     names: &[u32],
-    rows: &[u64],
+    rows: &[Parity],
     room: &mut [u64],
-    nodes: &mut [u64],
-    held: &mut [u64],
-    right: &mut [u64],
+    nodes: &mut [Slot; STACK],
+    held: &mut [Parity; MAX_COLUMNS],
+    right: &mut [Parity; MAX_COLUMNS],
     steps: &mut [u32],
     plan: Plan,
 ) -> Flushed
     requires closable { Closable list.now start end block out.old m table.old names.now rows.now room.old }
-    requires spared { Spared list.now nodes.old held.old right.old steps.old }
+    requires spared { Spared list.now steps.old }
     ensures { Closes (writer_of (view plan)) list.now start end out.old m out.new table.new result }
 {
     let from = GATE_WIDTH * start;
@@ -127,36 +163,7 @@ pub fn copy_gate(list: &[i32], i: usize, out: &mut [i32], m: usize)
 {
     let from = GATE_WIDTH * i;
     let at = GATE_WIDTH * m;
-    flush::copy(
-        &list[from..from + GATE_WIDTH],
-        &mut out[at..at + GATE_WIDTH],
-    );
-}
-
-// A gate more, copied outside any block.
-pub fn copied(s: Tally) -> Tally
-    requires { Low s }
-    ensures { result ≡ record { at = s.at + 1; gates = s.gates + 1; blocks = s.blocks; replaced = s.replaced } }
-{
-    Tally {
-        at: s.at + 1,
-        gates: s.gates + 1,
-        blocks: s.blocks,
-        replaced: s.replaced,
-    }
-}
-
-// A block more, which ends at `end`.
-pub fn closed(s: Tally, end: usize, f: Flushed) -> Tally
-    requires { Low s × (f.gates ≤ max_gates) }
-    ensures { result ≡ record { at = end; gates = s.gates + f.gates; blocks = s.blocks + 1; replaced = s.replaced + cond f.replaced 1 0 } }
-{
-    Tally {
-        at: end,
-        gates: s.gates + f.gates,
-        blocks: s.blocks + 1,
-        replaced: s.replaced + f.replaced as usize,
-    }
+    out[at..at + GATE_WIDTH].copy_from_slice(&list[from..from + GATE_WIDTH]);
 }
 
 // One piece: the block that starts at the next gate or, where none can, that gate copied.
@@ -164,17 +171,17 @@ fn piece(
     list: &[i32],
     s: Tally,
     table: &mut [u32],
-    names: &mut [u32],
-    rows: &mut [u64],
-    nodes: &mut [u64],
-    held: &mut [u64],
-    right: &mut [u64],
+    names: &mut [u32; MAX_COLUMNS],
+    rows: &mut [Parity; MAX_COLUMNS],
+    nodes: &mut [Slot; STACK],
+    held: &mut [Parity; MAX_COLUMNS],
+    right: &mut [Parity; MAX_COLUMNS],
     out: &mut [i32],
     room: &mut [u64],
     steps: &mut [u32],
     plan: Plan,
 ) -> Tally
-    requires { Ready (writer_of (view plan)) (view plan) list.now s table.old names.old rows.old nodes.old held.old right.old out.old room.old steps.old }
+    requires { Ready (writer_of (view plan)) (view plan) list.now s table.old out.old room.old steps.old }
     ensures { Advances (writer_of (view plan)) (view plan) list.now s result out.new table.new }
 {
     let most = heads_in(steps.len());
@@ -191,13 +198,13 @@ fn piece(
     let end = run.end;
     if end == s.at {
         copy_gate(list, end, out, s.gates);
-        return copied(s);
+        return s.copied();
     }
     let f = close(
         list, s.at, end, run.block, out, s.gates, table, &*names, &*rows, room, nodes, held, right,
         steps, plan,
     );
-    closed(s, end, f)
+    s.closed(end, f)
 }
 
 // The whole list, piece by piece. `table` has a place for each wire of the circuit. What is left in `room`, in `steps` and behind the result is the
@@ -215,16 +222,11 @@ pub fn scan(
 {
     let n = list.len() / GATE_WIDTH;
     let mut names = [0u32; MAX_COLUMNS];
-    let mut rows = [0u64; MATRIX];
-    let mut nodes = [0u64; STACK];
-    let mut held = [0u64; MATRIX];
-    let mut right = [0u64; MATRIX];
-    let mut s = Tally {
-        at: 0,
-        gates: 0,
-        blocks: 0,
-        replaced: 0,
-    };
+    let mut rows = [Parity::zero(); MAX_COLUMNS];
+    let mut nodes = [Slot::first(Parity::zero()); STACK];
+    let mut held = [Parity::zero(); MAX_COLUMNS];
+    let mut right = [Parity::zero(); MAX_COLUMNS];
+    let mut s = Tally::new();
     while s.at < n {
         s = piece(
             list,

@@ -7,7 +7,7 @@ use mathlib.Core.Logic.{◌≢◌}
 use mathlib.Core.Bool.{Bool, true, false}
 use mathlib.Core.List.{List}
 use Prim.Native.Nat.{ℕ, ◌+◌, ◌-◌, ◌*◌, ◌/◌, ◌%◌, ◌^◌, ◌≤◌, ◌<◌}
-use native.Mathlib.Nat.{mod-lt, mul_comm, mul-le-mul_left, mul-lt-mul_of_pos_right, div-lt_iff_lt-mul}
+use native.Mathlib.Nat.{mod-lt, mul_comm, mul-lt-mul_of_pos_right, div-lt_iff_lt-mul}
 use native.Mathlib.Numerals.{add-one}
 use native.Mathlib.Omega.{arith}
 use lib.ListN.{length, get_or, set, take, length-set}
@@ -27,12 +27,6 @@ use Rattle.terms.proofs.Chains.{linked-none, linked-same, linked-more}
 -- x of k, scaled to n
 pub scaled-lt : (x n k : ℕ) → x < k → 0 < n → x * n / k < n
 scaled-lt x n k l p = (div-lt_iff_lt-mul {k = k} {x = x * n} {y = n} (omega arith)).1 (rw (mul_comm n k) (mul-lt-mul_of_pos_right l p))
-
--- and not past a word
-pub product-fits : (x n : ℕ) → x < 2 ^ 32 → n ≤ 2 ^ 32 → x * n < 2 ^ 64
-product-fits x n l m =
-    let a : x * n ≤ x * 2 ^ 32 = mul-le-mul_left x m in
-    omega arith
 
 pub slot_lt : (n v : ℕ) → 0 < n → slot_of n v < n
 unfolding slot_of
