@@ -1,9 +1,10 @@
 -- A part of the row room that is lent from its beginning and comes back; and what lies behind a place.
 --     row-take                          the rows of a part
 --     part-many                         how many rows a part has
+--     rows_cut                          the rows of a block, by the parts of its names and parities that have joined
 --     part-add, part-rest               in the part a row is added to another: so it is in the room, and the rest stays
 --     behind_more, behind-same, behind-on    what is as it was behind a place is so further back, for a state with as many wires, and step by step
-use Rattle.std.proofs.Common.{◌≡◌, sym, ap, ap₂, ◌∙◌, List, ◌++◌, ℕ, ◌+◌, ◌-◌, ◌≤◌, ◌<◌, length, get_or, set, take, drop, arith}
+use Rattle.std.proofs.Common.{◌≡◌, refl, sym, ap, ap₂, ◌∙◌, List, ◌++◌, ℕ, ◌+◌, ◌-◌, ◌≤◌, ◌<◌, length, get_or, set, take, drop, arith}
 use Rattle.std.proofs.lemmas.List.{take-map, drop-map, map-append}
 use lib.ListN.{take-append-drop}
 use lib.Seq.{drop-drop, drop_at, get_or-take, take-set-lt, drop-set-lt, length-take-le}
@@ -13,8 +14,10 @@ use Rattle.parity.specs.View.{val}
 use Rattle.parity.specs.declared.Parity.{Parity}
 use Rattle.rows.specs.Rows.{rows_of}
 use Rattle.rows.proofs.Room.{row_count}
+use Rattle.block.specs.View.{names_of, held_of, rows_from, row_at, rows_at}
 use Rattle.block.specs.Steps.{Behind}
 use Rattle.block.specs.declared.Block.{Block}
+use Rattle.block.proofs.Rowing.{row-eq, rows_ext}
 
 -- ---- rows of a part
 
@@ -23,6 +26,13 @@ row-take n xs = sym (take-map val n xs)
 
 pub part-many : (n : ℕ) (xs : List Parity) → n ≤ length (rows_of xs) → length (rows_of (take n xs)) ≡ n
 part-many n xs l = ap length (row-take n xs) ∙ length-take-le n (rows_of xs) l
+
+pub rows_cut : (b : Block) → rows_at b ≡ rows_from (row_at (names_of b) (rows_of (held_of b)) (val b.flips)) b.wires 0
+unfolding rows_at
+rows_cut b =
+    let n = b.wires in
+    sym (rows_ext (row_at (names_of b) (rows_of (held_of b)) (val b.flips)) (row_at b.names (rows_of b.rows) (val b.flips)) n 0
+    (λ j l h. row-eq (get_or-take n b.names j 0 (omega arith)) (ap (λ (hs : List ℕ). get_or hs j 0) (row-take n b.rows) ∙ get_or-take n (rows_of b.rows) j 0 (omega arith)) refl))
 
 -- the first n rows come back as `part`
 module _ (n : ℕ) (rows part : List Parity) (many : n ≤ length (rows_of rows)) (kept : length part ≡ length (take n rows)) where

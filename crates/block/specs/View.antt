@@ -4,10 +4,18 @@ use Rattle.rules.specs.Limits.{max_columns}
 use Rattle.rules.specs.Bit.{bit}
 use Rattle.rules.specs.Fold as Paper
 use Rattle.parity.specs.View.{val}
+use Rattle.parity.specs.declared.Parity.{Parity}
 use Rattle.terms.specs.Terms.{terms_of}
 use Rattle.rows.specs.Rows.{rows_of}
 use Rattle.join.specs.Tables.{Joins}
 use Rattle.block.specs.declared.Block.{Block}
+
+-- the names of the wires that have joined, and the parities that they hold
+abbrev pub names_of : Block → List ℕ
+names_of b = take b.wires b.names
+
+abbrev pub held_of : Block → List Parity
+held_of b = take b.wires b.rows
 
 -- n rows from index i on
 unfoldable pub rows_from : (ℕ → Paper.Row) → ℕ → ℕ → List Paper.Row
