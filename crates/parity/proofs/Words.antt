@@ -1,34 +1,24 @@
 -- Two words as one number, over any width k of the low word and j of the high one.
 use mathlib.Core.Path.{◌≡◌, refl, sym, ap, ap₂, ◌∙◌}
 use mathlib.Core.Logic.{◌≢◌}
-use mathlib.Core.Bool.{Bool, true, false, ◌&&◌, cond}
+use mathlib.Core.Bool.{cond}
 use Prim.Native.Nat.{ℕ, zero, suc, ◌+◌, ◌-◌, ◌*◌, ◌/◌, ◌%◌, ◌^◌, ◌≤◌, ◌<◌}
-use native.Mathlib.Nat.{le_of_suc-le-suc, add-suc, add-zero, mul-one, suc-add, zero-add, not-suc-le-zero, one-mul, zero-mul, mul-zero, mod-eq_of_lt, mul-le-mul_right, pow-suc}
+use native.Mathlib.Nat.{le_of_suc-le-suc, add-suc, add-zero, mul-one, suc-add, zero-add, not-suc-le-zero, one-mul, zero-mul, mod-eq_of_lt, mul-le-mul_right, pow-suc}
 use native.Mathlib.Omega.{arith}
-use borrow.Author.Tests.{eqb-true, eqb-false, eq-eqb, ne_eqb}
+use borrow.Author.Tests.{eqb-true, eqb-false}
 use lib.Arith.{mul_pred}
 use lib.Bits.{bit_and, and_block, and_self, block_half, block_odd, shifted_half, shifted_even}
 use lib.Count.{count_trailing_zeros, count_leading_zeros, leading_top, leading_length, leading_unique, under}
 use lib.Dec.{eqb}
-use mir.Val.{bool_byte}
 use lib.Pow.{high, shr-shr, pow_pos, pow-add, pow-lt, ones_lt, ones_split}
 use Rattle.rules.specs.Bit.{is_set, bit}
 use Rattle.rules.proofs.Bits.{split, bit-suc}
 use Rattle.parity.specs.Columns.{clear_lowest}
-use Rattle.parity.proofs.Laws.{bit-low, half_lt, words-lt, words-eq}
+use Rattle.parity.proofs.Laws.{bit-low, half_lt, words-lt}
 
 -- a word that is 0
 pub no-high : (k hi lo : ℕ) → hi ≡ 0 → hi * 2 ^ k + lo ≡ lo
 no-high k hi lo e = rw (e, zero-mul (2 ^ k), zero-add lo)
-
--- two words are compared one by one
-pub words_same : (k a b c d : ℕ) → b < 2 ^ k → d < 2 ^ k → (eqb b d && eqb a c) ≡ eqb (a * 2 ^ k + b) (c * 2 ^ k + d)
-words_same k a b c d hb hd =
-    split (eqb b d)
-    (λ s. split (eqb a c)
-    (λ t. rw (s, t) (sym (eq-eqb _ _ (ap₂ (λ (x y : ℕ). x * 2 ^ k + y) (eqb-true a c t) (eqb-true b d s)))))
-    (λ t. rw (s, t) (sym (ne_eqb _ _ (λ e. eqb-false a c t (words-eq k a b c d hb hd e).0)))))
-    (λ s. rw s (sym (ne_eqb _ _ (λ e. eqb-false b d s (words-eq k a b c d hb hd e).1))))
 
 -- a column of the low word, and of the high one
 pub low_bit : (k i hi lo : ℕ) → i < k → bit (hi * 2 ^ k + lo) i ≡ bit lo i
@@ -78,9 +68,6 @@ high-leading j k hi lo p h l =
     let some : 2 ^ m * 2 ^ k ≤ hi * 2 ^ k = mul-le-mul_right (2 ^ k) s.2 in
     leading_unique (j + k) (hi * 2 ^ k + lo) (count_leading_zeros j hi) (suc m + k) (omega (arith, s.1)) (words-lt (suc m) k hi lo s.3 l) (omega arith)
 
-pub leading_lt : (k n : ℕ) → 0 < n → n < 2 ^ k → count_leading_zeros k n < k
-leading_lt k n p h = let s = leading_top k n p h in omega (arith, s.1)
-
 pub low-leading : (j k lo : ℕ) → lo < 2 ^ k → j + count_leading_zeros k lo ≡ count_leading_zeros (j + k) lo
 low-leading j k lo h =
     let s = leading_length k lo h in
@@ -113,15 +100,6 @@ pub high-all : (w k n : ℕ) → k ≤ n → n < w + k → (1 * 2 ^ (n - k) % 2 
 high-all w k n l h =
     let e : n - k + k ≡ n = omega arith in
     ap (λ (x : ℕ). (x - 1) * 2 ^ k + (2 ^ k - 1)) (shl_one w (n - k) (omega arith)) ∙ sym (ones_split (n - k) k) ∙ ap (λ (x : ℕ). 2 ^ x - 1) e
-
--- words times 0 or 1
-pub kept-le : (w : ℕ) (keep : Bool) → w * bool_byte keep ≤ w
-kept-le w true = omega arith
-kept-le w false = omega arith
-
-pub words-kept : (k hi lo : ℕ) (keep : Bool) → hi * bool_byte keep * 2 ^ k + lo * bool_byte keep ≡ cond keep (hi * 2 ^ k + lo) 0
-words-kept k hi lo true = rw (mul-one hi, mul-one lo)
-words-kept k hi lo false = rw (mul-zero hi, mul-zero lo, zero-mul (2 ^ k))
 
 -- the digit as a number
 pub digit-cond : (n i : ℕ) → n / 2 ^ i % 2 ≡ cond (bit n i) 1 0

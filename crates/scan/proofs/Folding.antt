@@ -1,14 +1,12 @@
 -- A run folded gate by gate: what each turn of the loop needs and leaves.
 use mathlib.Core.Path.{◌≡◌, refl, sym, ap, ◌∙◌}
-use mathlib.Core.Bool.{Bool, true, cond}
+use mathlib.Core.Bool.{Bool, true}
 use mathlib.Core.List.{List, [], ◌∷◌, ◌++◌, map}
-use Prim.Native.Nat.{ℕ, suc, ◌+◌, ◌-◌, ◌*◌, ◌^◌, ◌≤◌, ◌<◌}
+use Prim.Native.Nat.{ℕ, suc, min, ◌+◌, ◌-◌, ◌*◌, ◌^◌, ◌≤◌, ◌<◌}
 use native.Mathlib.Omega.{arith}
 use lib.IntN.{ℤ}
 use lib.ListN.{length, take, length-map}
 use lib.Seq.{length-take-le}
-use lib.Dec.{ltb}
-use borrow.Author.Tests.{ltb-true, ltb-false}
 use Rattle.rules.specs.Limits.{max_gates, term_entries}
 use Rattle.rules.specs.Gate as Paper
 use Rattle.rules.specs.Numbers.{gate_at, gates_from, gates_of}
@@ -17,7 +15,6 @@ use Rattle.rules.specs.Fold as Fold
 use Rattle.rules.specs.Plan.{Plan}
 use Rattle.rules.specs.Scan.{takes, cut}
 use Rattle.rules.specs.Synth.{block_of}
-use Rattle.rules.proofs.Bits.{split}
 use Rattle.rules.proofs.Reading.{from-append, from-length}
 use Rattle.rules.proofs.Accepting.{fit_at}
 use Rattle.rules.proofs.Bounds.{fold-snoc, length-terms}

@@ -169,20 +169,25 @@ module _ (write : Writer) (p : Plan) (l : List ℤ) (s r : Tally) (out out' : Li
 
 -- ---- before the first piece, and behind the last
 
-pub begins : (write : Writer) (p : Plan) (l out : List ℤ) (s : Tally) → s.at ≡ 0 → s.gates ≡ 0 → s.blocks ≡ 0 → s.replaced ≡ 0 → Stands write p l s out
+pub begins : (write : Writer) (p : Plan) (l out : List ℤ) (s : Tally) → s ≡ record { at = 0; gates = 0; blocks = 0; replaced = 0 } → Stands write p l s out
 unfolding numbers_of
-begins write p l out s at gates blocks replaced = record {
-  inside = omega arith;
-  behind = omega arith;
-  few = omega arith;
-  fewer = omega arith;
-  so_far = [];
-  text = ap (made out) gates;
-  size = sym gates;
-  gates = ap (λ (i : ℕ). (onward write p l i).gates) at;
-  blocks = omega (arith, ap (λ (i : ℕ). (onward write p l i).blocks) at);
-  replaced = omega (arith, ap (λ (i : ℕ). (onward write p l i).replaced) at);
-}
+begins write p l out s is =
+    let at : s.at ≡ 0 = ap (λ (t : Tally). t.at) is in
+    let gates : s.gates ≡ 0 = ap (λ (t : Tally). t.gates) is in
+    let blocks : s.blocks ≡ 0 = ap (λ (t : Tally). t.blocks) is in
+    let replaced : s.replaced ≡ 0 = ap (λ (t : Tally). t.replaced) is in
+    record {
+      inside = omega arith;
+      behind = omega arith;
+      few = omega arith;
+      fewer = omega arith;
+      so_far = [];
+      text = ap (made out) gates;
+      size = sym gates;
+      gates = ap (λ (i : ℕ). (onward write p l i).gates) at;
+      blocks = omega (arith, ap (λ (i : ℕ). (onward write p l i).blocks) at);
+      replaced = omega (arith, ap (λ (i : ℕ). (onward write p l i).replaced) at);
+    }
 
 pub ends : (write : Writer) (p : Plan) (l out : List ℤ) (table : List ℕ) (s : Tally) → Stands write p l s out → Unjoined table → gates_in l ≤ s.at → Scans write p l out table s
 unfolding pass_by pieces_of

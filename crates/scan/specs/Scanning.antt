@@ -50,6 +50,12 @@ pub record Wide (names : List ℕ) (rows : List Parity) : Type 0 where
 pub record Spared (l : List ℤ) (steps : List ℕ) : Type 0 where
   pub long : step_width * step_entries (gates_in l) ≤ length steps
 
+-- a list and a number of wires that are within what an engine takes, and the numbers that it needs are lent
+pub record Suits (gates wires needs : ℕ) (l : List ℤ) (n : ℕ) (whole : List ℤ) : Type 0 where
+  pub few : gates_in l ≤ gates
+  pub narrow : n ≤ wires
+  pub long : needs ≤ length whole
+
 -- heads of an index at most
 abbrev pub most_heads : ℕ
 most_heads = 4096

@@ -1,12 +1,13 @@
 // The scan: the list cut into blocks and copied gates, each block written again where that is cheaper, the result side by side in the output.
 #![tactic(auto)]
 
-ghost use Rattle.std.specs.Prelude.{◌≡◌, cond, ◌++◌, suc, ◌+◌, ◌≤◌, min};
-ghost use Rattle.rules.specs.Limits.{max_gates};
-ghost use Rattle.rules.specs.Numbers.{gate_at, numbers};
+ghost use Rattle.std.specs.Prelude.{◌≡◌, cond, ◌++◌, ℕ, suc, ◌+◌, ◌≤◌, min, length};
+ghost use Rattle.rules.specs.Limits.{max_gates, max_columns};
+ghost use Rattle.rules.specs.Numbers.{gate_at, gates_of, numbers};
 ghost use Rattle.rules.specs.Pass.{writer_of};
 ghost use Rattle.plan.specs.View.{view};
-ghost use Rattle.scan.specs.Scanning.{made, most_heads, Spared, Headed, Foldable, Stops, Closable, Closes, Copyable, Low, Ready, Advances, Scannable, Scans};
+ghost use Rattle.flush.specs.Choice.{Flushable, Lent, Flushes};
+ghost use Rattle.scan.specs.Scanning.{made, most_heads, Spared, Suits, Headed, Foldable, Stops, Closable, Closes, Copyable, Low, Ready, Advances, Scannable, Scans};
 
 use block::Block;
 use flush::{Flushed, STACK};
@@ -73,6 +74,92 @@ impl Tally {
     }
 }
 
+// An engine: what it makes of a closed block, in rooms of its own and in `whole`, which is lent.
+pub trait Engine {
+    // How many gates a run may have and how many wires a block, and how many numbers `whole` then has.
+    ghost most_gates: { ℕ };
+
+    ghost most_wires: { ℕ };
+
+    ghost needs: { ℕ };
+
+    // The choice at the block's place: `run` is its gates, `place` its own place in the output, as long as the run. Its wires leave the join table.
+    fn flush(
+        &mut self,
+        run: &[i32],
+        place: &mut [i32],
+        block: Block,
+        table: &mut [u32],
+        names: &[u32],
+        rows: &[Parity],
+        room: &mut [u64],
+        steps: &mut [u32],
+        whole: &mut [i32],
+        plan: Plan,
+    ) -> Flushed
+        requires flushable { Flushable run.now block table.old names.now rows.now room.old }
+        requires lent { Lent run.now place.old steps.old }
+        requires few { (length (gates_of run.now) ≤ most_gates) × (block.wires ≤ most_wires) }
+        requires long { needs ≤ length whole.old }
+        ensures { Flushes (writer_of (view plan)) run.now place.new table.new names.now result };
+}
+
+// The first engine's rooms, made once for all blocks.
+#[derive(Drop)]
+struct Rooms {
+    nodes: [Slot; STACK],
+    held: [Parity; MAX_COLUMNS],
+    right: [Parity; MAX_COLUMNS],
+}
+
+impl Rooms {
+    fn new() -> Rooms {
+        Rooms {
+            nodes: [Slot::first(Parity::zero()); STACK],
+            held: [Parity::zero(); MAX_COLUMNS],
+            right: [Parity::zero(); MAX_COLUMNS],
+        }
+    }
+}
+
+// It takes every list and every block, and needs no room beside its own.
+impl Engine for Rooms {
+    ghost most_gates = { max_gates };
+
+    ghost most_wires = { max_columns };
+
+    ghost needs = { 0 };
+
+    fn flush(
+        &mut self,
+        run: &[i32],
+        place: &mut [i32],
+        block: Block,
+        table: &mut [u32],
+        names: &[u32],
+        rows: &[Parity],
+        room: &mut [u64],
+        steps: &mut [u32],
+        _whole: &mut [i32],
+        plan: Plan,
+    ) -> Flushed {
+        flush::flush(
+            run,
+            place,
+            block,
+            table,
+            names,
+            rows,
+            room,
+            &mut self.nodes,
+            &mut self.held,
+            &mut self.right,
+            steps,
+            plan,
+        )
+    }
+}
+
 // The gates from `start` on, folded onto an empty block as far as it takes them. `heads` are for the index of its terms, and may hold any numbers.
 pub fn fold_run(
     list: &[i32],
@@ -116,7 +203,7 @@ pub fn heads_in(n: usize) -> usize
 }
 
 // The run from gate `start` to `end`, whose block is folded, written behind the m gates of the output.
-fn close(
+fn close<E: Engine>(
     list: &[i32],
     start: usize,
     end: usize,
@@ -127,20 +214,20 @@ fn close(
     names: &[u32],
     rows: &[Parity],
     room: &mut [u64],
-    nodes: &mut [Slot; STACK],
-    held: &mut [Parity; MAX_COLUMNS],
-    right: &mut [Parity; MAX_COLUMNS],
     steps: &mut [u32],
+    whole: &mut [i32],
     plan: Plan,
+    engine: &mut E,
 ) -> Flushed
     requires closable { Closable list.now start end block out.old m table.old names.now rows.now room.old }
     requires spared { Spared list.now steps.old }
+    requires suits { Suits E.most_gates E.most_wires E.needs list.now block.wires whole.old }
     ensures { Closes (writer_of (view plan)) list.now start end out.old m out.new table.new result }
 {
     let from = GATE_WIDTH * start;
     let to = GATE_WIDTH * end;
     let at = GATE_WIDTH * m;
-    flush::flush(
+    engine.flush(
         &list[from..to],
         &mut out[at..at + (to - from)],
         block,
@@ -148,10 +235,8 @@ fn close(
         names,
         rows,
         room,
-        nodes,
-        held,
-        right,
         steps,
+        whole,
         plan,
     )
 }
@@ -167,21 +252,21 @@ pub fn copy_gate(list: &[i32], i: usize, out: &mut [i32], m: usize)
 }
 
 // One piece: the block that starts at the next gate or, where none can, that gate copied.
-fn piece(
+fn piece<E: Engine>(
     list: &[i32],
     s: Tally,
     table: &mut [u32],
     names: &mut [u32; MAX_COLUMNS],
     rows: &mut [Parity; MAX_COLUMNS],
-    nodes: &mut [Slot; STACK],
-    held: &mut [Parity; MAX_COLUMNS],
-    right: &mut [Parity; MAX_COLUMNS],
     out: &mut [i32],
     room: &mut [u64],
     steps: &mut [u32],
+    whole: &mut [i32],
     plan: Plan,
+    engine: &mut E,
 ) -> Tally
-    requires { Ready (writer_of (view plan)) (view plan) list.now s table.old out.old room.old steps.old }
+    requires ready { Ready (writer_of (view plan)) (view plan) list.now s table.old out.old room.old steps.old }
+    requires suits { Suits E.most_gates E.most_wires E.needs list.now (view plan).qubits whole.old }
     ensures { Advances (writer_of (view plan)) (view plan) list.now s result out.new table.new }
 {
     let most = heads_in(steps.len());
@@ -201,14 +286,51 @@ fn piece(
         return s.copied();
     }
     let f = close(
-        list, s.at, end, run.block, out, s.gates, table, &*names, &*rows, room, nodes, held, right,
-        steps, plan,
+        list, s.at, end, run.block, out, s.gates, table, &*names, &*rows, room, steps, whole, plan,
+        engine,
     );
     s.closed(end, f)
 }
 
-// The whole list, piece by piece. `table` has a place for each wire of the circuit. What is left in `room`, in `steps` and behind the result is the
-// caller's to clear.
+// The whole list, piece by piece, by any engine. `table` has a place for each wire of the circuit. What is left in `room`, in `steps`, in `whole` and
+// behind the result is the caller's to clear.
+pub fn scan_by<E: Engine>(
+    list: &[i32],
+    table: &mut [u32],
+    out: &mut [i32],
+    room: &mut [u64],
+    steps: &mut [u32],
+    whole: &mut [i32],
+    plan: Plan,
+    engine: &mut E,
+) -> Tally
+    requires scannable { Scannable (view plan) list.now out.old table.old room.old steps.old }
+    requires suits { Suits E.most_gates E.most_wires E.needs list.now (view plan).qubits whole.old }
+    ensures { Scans (writer_of (view plan)) (view plan) list.now out.new table.new result }
+{
+    let n = list.len() / GATE_WIDTH;
+    let mut names = [0u32; MAX_COLUMNS];
+    let mut rows = [Parity::zero(); MAX_COLUMNS];
+    let mut s = Tally::new();
+    while s.at < n {
+        s = piece(
+            list,
+            s,
+            &mut *table,
+            &mut names,
+            &mut rows,
+            &mut *out,
+            &mut *room,
+            &mut *steps,
+            &mut *whole,
+            plan,
+            &mut *engine,
+        );
+    }
+    s
+}
+
+// The same by the first engine, which needs no room beside its own.
 pub fn scan(
     list: &[i32],
     table: &mut [u32],
@@ -220,28 +342,6 @@ pub fn scan(
     requires { Scannable (view plan) list.now out.old table.old room.old steps.old }
     ensures { Scans (writer_of (view plan)) (view plan) list.now out.new table.new result }
 {
-    let n = list.len() / GATE_WIDTH;
-    let mut names = [0u32; MAX_COLUMNS];
-    let mut rows = [Parity::zero(); MAX_COLUMNS];
-    let mut nodes = [Slot::first(Parity::zero()); STACK];
-    let mut held = [Parity::zero(); MAX_COLUMNS];
-    let mut right = [Parity::zero(); MAX_COLUMNS];
-    let mut s = Tally::new();
-    while s.at < n {
-        s = piece(
-            list,
-            s,
-            &mut *table,
-            &mut names,
-            &mut rows,
-            &mut nodes,
-            &mut held,
-            &mut right,
-            &mut *out,
-            &mut *room,
-            &mut *steps,
-            plan,
-        );
-    }
-    s
+    let mut rooms = Rooms::new();
+    scan_by(list, table, out, room, steps, &mut [], plan, &mut rooms)
 }

@@ -17,6 +17,7 @@ use Rattle.rules.specs.Plan.{Plan}
 use Rattle.rules.specs.Scan.{takes, Piece, copied, block, closed, cut, pieces_of}
 use Rattle.rules.proofs.Bits.{split}
 use Rattle.rules.proofs.Reading.{from-length}
+use Rattle.parity.specs.declared.Parity.{Parity}
 use Rattle.scan.specs.Scanning.{gates_in, run, rest, Stops}
 use Rattle.scan.specs.declared.Run.{Run}
 use Rattle.scan.proofs.Folding.{run_none, run-next, rest-next, rest-none, block_none}
@@ -137,7 +138,7 @@ module _ (p : Plan) (l : List ℤ) (i : ℕ) (h : i < gates_in l) where
 
 -- ---- by where the fold of a run stops
 
-module _ (p : Plan) (l : List ℤ) (i : ℕ) (r : Run) (table names rows room : List ℕ) (s : Stops p l i r table names rows room) (h : i < gates_in l) where
+module _ (p : Plan) (l : List ℤ) (i : ℕ) (r : Run) (table names : List ℕ) (rows : List Parity) (room : List ℕ) (s : Stops p l i r table names rows room) (h : i < gates_in l) where
   pub stop-lone : r.end ≡ i → Cuts p l i (i + 1)
   stop-lone e = lone-cuts p l i h (subst (λ (j : ℕ). takes p (op (gate_at l j)) (block_of (run l i j)) ≡ false) e (s.full (omega arith)))
 

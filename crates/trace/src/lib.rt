@@ -20,6 +20,7 @@ ghost use Rattle.trace.specs.Clauses.{trace_bytes, Right, Single, Cuts, Traces};
 
 use cnot_min::Answer;
 use origin::ORIGIN_BYTES;
+use parity::Parity;
 use plan::Plan;
 use rules::{GATE_TERMS, GATE_WIDTH, MAX_COLUMNS, MAX_WIRES, TERM_WIDTH};
 use saying::{Said, Taken};
@@ -29,9 +30,6 @@ use spelling::{Head, LIST_GATES};
 // Bytes of the room for an answer.
 pub const TRACE_BYTES: usize = ORIGIN_BYTES * LIST_GATES;
 
-// Words of a matrix for the widest block.
-const MATRIX: usize = 2 * MAX_COLUMNS;
-
 // The place behind the piece that begins at gate `at`: the block that the scan folds there or, where none can begin, that gate.
 fn piece_end(numbers: &[i32], at: usize, head: Head) -> usize
     requires { Right (head_of head) numbers.now × (at < gates_in numbers.now) }
@@ -40,7 +38,7 @@ fn piece_end(numbers: &[i32], at: usize, head: Head) -> usize
     let plan = plan::of_caps(head.qubits as usize, head.terms as usize);
     let mut table = [0u32; MAX_WIRES];
     let mut names = [0u32; MAX_COLUMNS];
-    let mut rows = [0u64; MATRIX];
+    let mut rows = [Parity::zero(); MAX_COLUMNS];
     let mut room = [0u64; TERM_WIDTH * (GATE_TERMS * LIST_GATES)];
     let mut heads = [0u32; HEADS];
     let run = scan::fold_run(

@@ -11,9 +11,6 @@ use Rattle.rules.specs.Walk.{turns}
 use Rattle.terms.specs.Terms.{no_term}
 
 module _ (ts : List Term) where
-  pub turns-first : (0 + turns (drop 0 ts)) % 8 ≡ turns ts % 8
-  turns-first = omega arith
-
   pub turns_next : (sum new i : ℕ) (e : Term) → (sum + turns (drop i ts)) % 8 ≡ turns ts % 8 → i < length ts → e ≡ get_or ts i no_term → new ≡ (sum + e.turn) % 8
       → (new + turns (drop (i + 1) ts)) % 8 ≡ turns ts % 8
   unfolding turns

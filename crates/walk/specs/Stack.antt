@@ -38,10 +38,6 @@ view (Owes p t) = owes p t
 abbrev pub aim_of : Slot → Walk.Aim
 aim_of s = view s.aim
 
--- nothing is owed
-pub record Settled (a : Aim) : Type 0 where
-  pub owes_none : (p t : ℕ) → a ≢ Owes p t
-
 -- the node of a slot whose set ends at `end`
 abbrev pub node_of : Slot → List Term → ℕ → Node
 node_of s ts end = node (val s.cands) (aim_of s) (slice s.start end ts)

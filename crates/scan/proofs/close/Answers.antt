@@ -14,7 +14,7 @@ use Rattle.scan.proofs.Writing.{part, part-gates, part-exact, put-behind, part-f
 use Rattle.scan.proofs.close.Goals as goal
 
 pub flush-requires-clause-flushable : goal.flush-requires-clause-flushable
-flush-requires-clause-flushable c =
+flush-requires-clause-flushable g c =
     let a = c.args in
     let k = c.requires.closable in
     record {
@@ -24,7 +24,7 @@ flush-requires-clause-flushable c =
     }
 
 pub flush-requires-clause-lent : goal.flush-requires-clause-lent
-flush-requires-clause-lent c =
+flush-requires-clause-lent g c =
     let a = c.args in
     let k = c.requires.closable in
     let gates : gates_of (part a.list.now a.start a.end) ≡ run a.list.now a.start a.end = part-gates a.list.now k.checked.exact a.start a.end k.onward k.inside in
@@ -35,8 +35,17 @@ flush-requires-clause-lent c =
       long = omega (arith, count, k.inside, c.requires.spared.long);
     }
 
+pub flush-requires-clause-few : goal.flush-requires-clause-few
+flush-requires-clause-few g c =
+    let a = c.args in
+    let k = c.requires.closable in
+    let r = c.requires.suits in
+    let gates : gates_of (part a.list.now a.start a.end) ≡ run a.list.now a.start a.end = part-gates a.list.now k.checked.exact a.start a.end k.onward k.inside in
+    let count = ap length gates ∙ from-length a.list.now (a.end - a.start) a.start in
+    (omega (arith, count, k.inside, r.few), r.narrow)
+
 pub returns : goal.returns
-returns c =
+returns g c =
     let f = c.flush in
     let a = c.args in
     let k = c.requires.closable in

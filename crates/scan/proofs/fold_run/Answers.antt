@@ -83,6 +83,6 @@ loop-i-preserved c =
 pub returns : goal.returns
 returns c =
     let l = c.loop-i in
-    let e : l.i ≡ gates_in c.args.list.now = omega (arith, ?) in
+    let e : l.i ≡ gates_in c.args.list.now = omega (arith, c.loop-i-test.false, l.auto.i-end c.requires.foldable.inside) in
     let i = (rw e at l.invariant).1 in
     record { onward = c.requires.foldable.inside; inside = omega arith; holds = i.holds; narrow = i.narrow; cuts = i.cuts; full = λ h. absurd (omega arith) }

@@ -7,6 +7,7 @@ use lib.Seq.{length-take-le}
 use Rattle.rules.specs.Limits.{max_columns, max_wires, term_width, term_entries}
 use Rattle.rules.specs.Plan.{Plan}
 use Rattle.plan.specs.View.{view}
+use Rattle.parity.specs.declared.Parity.{Parity}
 use Rattle.cnot_min.proofs.Rooms.{clamped}
 use Rattle.spelling.specs.Sizes.{list_gates}
 use Rattle.spelling.specs.Heads.{head_of}
@@ -55,7 +56,7 @@ pub fold_run-run-requires : goal.fold_run-run-requires
 fold_run-run-requires c =
     let o = c.of_caps-plan in
     let capped : (view o.result).qubits ≤ max_columns = omega (arith, ap (λ (p : Plan). p.qubits) o.ensures, clamped c.args.head.qubits c.args.head.terms) in
-    record { foldable = foldable (head_of c.args.head) c.args.numbers.now c.requires.0 (view o.result) capped c.args.at _ _ _ (omega (arith, c.requires.1)) (length-replicate {A = ℕ} 128 0) (length-replicate {A = ℕ} 256 0) (length-replicate {A = ℕ} (term_width * term_entries list_gates) 0); headed = record { some = rw (length-replicate {A = ℕ} 4096 0) (omega arith); few = rw (length-replicate {A = ℕ} 4096 0) (omega arith) } }
+    record { foldable = foldable (head_of c.args.head) c.args.numbers.now c.requires.0 (view o.result) capped c.args.at _ _ _ (omega (arith, c.requires.1)) (length-replicate {A = ℕ} 128 0) (length-replicate {A = Parity} 128 _) (length-replicate {A = ℕ} (term_width * term_entries list_gates) 0); headed = record { some = rw (length-replicate {A = ℕ} 4096 0) (omega arith); few = rw (length-replicate {A = ℕ} 4096 0) (omega arith) } }
 
 pub overflow_add-result : goal.overflow_add-result
 overflow_add-result c = search rules
