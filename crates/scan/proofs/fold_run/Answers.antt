@@ -1,7 +1,6 @@
 -- `scan::fold_run` meets its contract: the state holds the block of the gates so far, and the list is cut behind them as it is before them.
 use mathlib.Core.Path.{◌≡◌, refl, ◌∙◌}
 use native.Mathlib.Omega.{arith}
-use borrow.Author.Tests.{not-true, not-false}
 use Rattle.rules.specs.Numbers.{gate_at}
 use Rattle.rules.specs.Meaning.{op}
 use Rattle.rules.specs.Scan.{takes}
