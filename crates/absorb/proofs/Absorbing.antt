@@ -10,7 +10,7 @@ use mathlib.Core.List.{List}
 use Prim.Native.Nat.{ℕ, ◌+◌, ◌^◌, ◌≤◌, ◌<◌}
 use native.Mathlib.Nat.{le_trans}
 use native.Mathlib.Omega.{arith}
-use lib.ListN.{length, get_or, set, length-set}
+use lib.ListN.{length, get_or, set, drop, length-set}
 use lib.Seq.{get_or-set_same, get_or-set_other, set-get_or}
 use lib.Dec.{leb, ltb}
 use borrow.Author.Tests.{eq-eqb, ne_eqb, leb-true}
@@ -52,24 +52,24 @@ module _ (f i : ℕ) where
 
 -- ---- rows
 
-module _ {rs : List Row} {b : State.Block} {table names : List ℕ} {rows : List Parity} (h : Joined rs b table names rows) where
-  pub add-joined : (r : State.Block) (rows' : List Parity) (i q p : ℕ) (s : Bool) → i < b.wires → get_or names i 0 ≡ q → Flips b i s r
-      → rows_of rows' ≡ set (rows_of rows) i (xor (get_or (rows_of rows) i 0) p) → Joined (add_row q p s rs) r table names rows'
+module _ {rs : List Row} {b : State.Block} {table : List ℕ} (h : Joined rs b table) where
+  pub add-joined : (r : State.Block) (i q p : ℕ) (s : Bool) → i < b.wires → get_or b.names i 0 ≡ q → Flips b i s r
+      → rows_of r.rows ≡ set (rows_of b.rows) i (xor (get_or (rows_of b.rows) i 0) p) → Joined (add_row q p s rs) r table
   unfolding rows_at
-  add-joined r rows' i q p s l e k w =
+  add-joined r i q p s l e k w =
       let n : ℕ = b.wires in
-      let f : ℕ → Row = row_at names (rows_of rows) (val b.flips) in
-      let g : ℕ → Row = row_at names (rows_of rows') (val r.flips) in
+      let f : ℕ → Row = row_at b.names (rows_of b.rows) (val b.flips) in
+      let g : ℕ → Row = row_at r.names (rows_of r.rows) (val r.flips) in
       let here : g i ≡ record { wire = (f i).wire; parity = xor (f i).parity p; flips = (f i).flips ⊕ s } =
-      row-eq refl
-      (ap (λ (l : List ℕ). get_or l i 0) w ∙ get_or-set_same (rows_of rows) i (xor (get_or (rows_of rows) i 0) p) 0 (omega (arith, h.wide, h.joins.few)))
+      row-eq (ap (λ (l : List ℕ). get_or l i 0) k.names)
+      (ap (λ (l : List ℕ). get_or l i 0) w ∙ get_or-set_same (rows_of b.rows) i (xor (get_or (rows_of b.rows) i 0) p) 0 (omega (arith, h.wide, h.joins.few)))
       (ap (λ (v : ℕ). bit v i) k.flips ∙ flips-here (val b.flips) i s) in
       let there : (j : ℕ) → j < n → j ≢ i → g j ≡ f j =
-      λ j a c. row-eq refl
-      (ap (λ (l : List ℕ). get_or l j 0) w ∙ get_or-set_other (rows_of rows) i j (xor (get_or (rows_of rows) i 0) p) 0 c)
+      λ j a c. row-eq (ap (λ (l : List ℕ). get_or l j 0) k.names)
+      (ap (λ (l : List ℕ). get_or l j 0) w ∙ get_or-set_other (rows_of b.rows) i j (xor (get_or (rows_of b.rows) i 0) p) 0 c)
       (ap (λ (v : ℕ). bit v j) k.flips ∙ flips-there (val b.flips) i s j c) in
       record {
-        joins = rw k.wires h.joins;
+        joins = rw (k.wires, k.names) h.joins;
         wide = rw w (simp length-set h.wide);
         clear = λ j m.
             let d : n ≤ j = omega (arith, k.wires) in
@@ -80,27 +80,27 @@ module _ {rs : List Row} {b : State.Block} {table names : List ℕ} {rows : List
       }
 
   -- x
-  pub flip-joined : (r : State.Block) (i q : ℕ) → i < b.wires → get_or names i 0 ≡ q → Flips b i true r → Joined (rows_by (flip q) rs) r table names rows
+  pub flip-joined : (r : State.Block) (i q : ℕ) → i < b.wires → get_or b.names i 0 ≡ q → Flips b i true r → r.rows ≡ b.rows → Joined (rows_by (flip q) rs) r table
   unfolding rows_by
-  flip-joined r i q l e k =
-      add-joined r rows i q 0 true l e k
-      (sym (ap (λ (v : ℕ). set (rows_of rows) i v) (xor_zero_r (get_or (rows_of rows) i 0)) ∙ set-get_or (rows_of rows) i 0))
+  flip-joined r i q l e k m =
+      add-joined r i q 0 true l e k
+      (ap rows_of m ∙ sym (ap (λ (v : ℕ). set (rows_of b.rows) i v) (xor_zero_r (get_or (rows_of b.rows) i 0)) ∙ set-get_or (rows_of b.rows) i 0))
 
   -- cnot
-  pub cross-joined : (r : State.Block) (rows' : List Parity) (i j c t : ℕ) → i < b.wires → j < b.wires → get_or names i 0 ≡ c → get_or names j 0 ≡ t
-      → Crosses b i j (bit (val b.flips) i) rows r rows' → Joined (rows_by (cnot c t) rs) r table names rows'
+  pub cross-joined : (r : State.Block) (i j c t : ℕ) → i < b.wires → j < b.wires → get_or b.names i 0 ≡ c → get_or b.names j 0 ≡ t
+      → Crosses b i j (bit (val b.flips) i) r → Joined (rows_by (cnot c t) rs) r table
   unfolding rows_by add_to
-  cross-joined r rows' i j c t li lj ei ej k =
-      rw (row_is h i c li ei) (add-joined r rows' j t (get_or (rows_of rows) i 0) (bit (val b.flips) i) lj ej k.flips k.held)
+  cross-joined r i j c t li lj ei ej k =
+      rw (row_is h i c li ei) (add-joined r j t (get_or (rows_of b.rows) i 0) (bit (val b.flips) i) lj ej k.flips k.held)
 
   -- a gate that leaves the rows
-  pub still-joined : (r : State.Block) → r.wires ≡ b.wires → r.flips ≡ b.flips → Joined rs r table names rows
+  pub still-joined : (r : State.Block) → r.wires ≡ b.wires → r.flips ≡ b.flips → r.names ≡ b.names → r.rows ≡ b.rows → Joined rs r table
   unfolding rows_at
-  still-joined r w f = record {
-    joins = rw w h.joins;
-    wide = h.wide;
+  still-joined r w f n m = record {
+    joins = rw (w, n) h.joins;
+    wide = rw m h.wide;
     clear = λ i l. rw f (h.clear i (omega (arith, w)));
-    same = rw (w, f) h.same;
+    same = rw (w, f, n, m) h.same;
   }
 
 -- ---- gates
@@ -110,57 +110,57 @@ pub terms-same : (b r : State.Block) (room : List ℕ) → r.terms ≡ b.terms �
 unfolding terms_at
 terms-same b r room e = rw e
 
-module _ (rs : List Row) (ts : List Term) (b r : State.Block) (names : List ℕ) (rows : List Parity) (room table' names' : List ℕ) (rows' : List Parity) (heads : List ℕ) (x : Indexed heads room b.terms) where
+module _ (rs : List Row) (ts : List Term) (b r : State.Block) (room table' heads : List ℕ) (x : Indexed heads room b.terms) where
   kept : Folded ts b room → r.terms ≡ b.terms → Folded ts r room
   kept f e = record { few = rw e f.few; same = terms-same b r room e ∙ f.same }
 
-  pub flip-absorbs : (q : ℕ) → Moves (rows_by (flip q) (entered (flip q) rs)) b r names rows table' names' rows' → Folded ts b room
-      → Absorbs (absorb (flip q) (record { rows = rs; terms = ts })) b r names rows room table' names' rows' room heads
+  pub flip-absorbs : (q : ℕ) → Moves (rows_by (flip q) (entered (flip q) rs)) b r table' → Folded ts b room
+      → Absorbs (absorb (flip q) (record { rows = rs; terms = ts })) b r room table' room heads
   unfolding absorb terms_by
   flip-absorbs q m f = record { holds = record { rows_are = m.joined; terms-are = kept f m.terms }; more = m.more; grows = omega (arith, m.terms); behind = m.behind; rest = refl; indexed = rw m.terms x }
 
-  pub cnot-absorbs : (c t : ℕ) → Moves (rows_by (cnot c t) (entered (cnot c t) rs)) b r names rows table' names' rows' → Folded ts b room
-      → Absorbs (absorb (cnot c t) (record { rows = rs; terms = ts })) b r names rows room table' names' rows' room heads
+  pub cnot-absorbs : (c t : ℕ) → Moves (rows_by (cnot c t) (entered (cnot c t) rs)) b r table' → Folded ts b room
+      → Absorbs (absorb (cnot c t) (record { rows = rs; terms = ts })) b r room table' room heads
   unfolding absorb terms_by
   cnot-absorbs c t m f = record { holds = record { rows_are = m.joined; terms-are = kept f m.terms }; more = m.more; grows = omega (arith, m.terms); behind = m.behind; rest = refl; indexed = rw m.terms x }
 
 -- e is the block with the gate's wires joined, r the block after
-module _ (rs : List Row) (b e r : State.Block) (names : List ℕ) (rows : List Parity) (table' names' : List ℕ) (rows' : List Parity) (room room' heads' : List ℕ) (same : e.terms ≡ b.terms) (more : b.wires ≤ e.wires) (behind : Behind e names rows names' rows') where
-  pub turn-absorbs : (k i q : ℕ) → Joined (join q rs) e table' names' rows' → i < e.wires → get_or names' i 0 ≡ q
-      → Turns (add_term (get_or (rows_of rows') i 0) (signed (bit (val e.flips) i) k) (terms_at e room)) e r room room' heads'
-      → Absorbs (absorb (phase k q) (record { rows = rs; terms = terms_at b room })) b r names rows room table' names' rows' room' heads'
+module _ (rs : List Row) (b e r : State.Block) (table' room room' heads' : List ℕ) (same : e.terms ≡ b.terms) (more : b.wires ≤ e.wires) (behind : Behind b e) where
+  pub turn-absorbs : (k i q : ℕ) → Joined (join q rs) e table' → i < e.wires → get_or e.names i 0 ≡ q
+      → Turns (add_term (get_or (rows_of e.rows) i 0) (signed (bit (val e.flips) i) k) (terms_at e room)) e r room room' heads'
+      → Absorbs (absorb (phase k q) (record { rows = rs; terms = terms_at b room })) b r room table' room' heads'
   unfolding absorb entered rows_by terms_by
   turn-absorbs k i q h l n t = record {
     holds = record {
-      rows_are = still-joined h r t.wires t.flips;
+      rows_are = still-joined h r t.wires t.flips t.names t.rows;
       terms-are = rw (row_is h i q l n, ← terms-same b e room same) t.folded;
     };
     more = omega (arith, more, t.wires);
     grows = omega (arith, same, t.grows);
-    behind = behind-same e r names rows names' rows' t.wires behind;
+    behind = behind-same b e r t.wires t.names (ap (drop e.wires) t.rows) behind;
     rest = t.rest;
     indexed = t.indexed;
   }
 
-  pub cz-absorbs : (i j c t : ℕ) → Joined (join t (join c rs)) e table' names' rows' → i < e.wires → j < e.wires → get_or names' i 0 ≡ c → get_or names' j 0 ≡ t
-      → Turns (cz_terms (get_or (rows_of rows') i 0) (bit (val e.flips) i) (get_or (rows_of rows') j 0) (bit (val e.flips) j) (terms_at e room)) e r room room' heads'
-      → Absorbs (absorb (cz c t) (record { rows = rs; terms = terms_at b room })) b r names rows room table' names' rows' room' heads'
+  pub cz-absorbs : (i j c t : ℕ) → Joined (join t (join c rs)) e table' → i < e.wires → j < e.wires → get_or e.names i 0 ≡ c → get_or e.names j 0 ≡ t
+      → Turns (cz_terms (get_or (rows_of e.rows) i 0) (bit (val e.flips) i) (get_or (rows_of e.rows) j 0) (bit (val e.flips) j) (terms_at e room)) e r room room' heads'
+      → Absorbs (absorb (cz c t) (record { rows = rs; terms = terms_at b room })) b r room table' room' heads'
   unfolding absorb entered rows_by terms_by
   cz-absorbs i j c t h li lj ni nj k = record {
     holds = record {
-      rows_are = still-joined h r k.wires k.flips;
+      rows_are = still-joined h r k.wires k.flips k.names k.rows;
       terms-are = rw (row_is h i c li ni, row_is h j t lj nj, ← terms-same b e room same) k.folded;
     };
     more = omega (arith, more, k.wires);
     grows = omega (arith, same, k.grows);
-    behind = behind-same e r names rows names' rows' k.wires behind;
+    behind = behind-same b e r k.wires k.names (ap (drop e.wires) k.rows) behind;
     rest = k.rest;
     indexed = k.indexed;
   }
 
-pub absorb-ready : {p : Block} {b : State.Block} {table names : List ℕ} {rows : List Parity} {room heads : List ℕ} → Holds p b table names rows room
+pub absorb-ready : {p : Block} {b : State.Block} {table room heads : List ℕ} → Holds p b table room
     → (g : Gate) (plan : Plan) → Wired g table → plan.qubits ≤ max_columns → b.terms + 3 ≤ length (terms_of room) → b.terms + 3 ≤ 2 ^ 32 → Indexed heads room b.terms
-    → takes plan (op (gate_of g)) p ≡ true → Absorbable b g table names rows room heads
+    → takes plan (op (gate_of g)) p ≡ true → Absorbable b g table room heads
 unfolding takes
 absorb-ready {p} h g plan w l m low x t =
     let o : Op = op (gate_of g) in

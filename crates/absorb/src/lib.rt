@@ -13,30 +13,22 @@ ghost use Rattle.absorb.specs.Absorbing.{Moves, Absorbs, Absorbable};
 use block::Block;
 use gate::Gate;
 use join::Wire;
-use parity::Parity;
 use rules::{CODE_CNOT, CODE_CZ, CODE_RZ, CODE_X};
 
-fn absorb_x(b: &mut Block, q: Wire, table: &mut [u32], names: &mut [u32], rows: &mut [Parity])
-    requires { Enterable b.old q.0 table.old names.old rows.old }
-    ensures { Moves (Fold.rows_by (flip q.0) (Fold.entered (flip q.0) (rows_at b.old names.old rows.old))) b.old b.new names.old rows.old table.new names.new rows.new }
+fn absorb_x(b: &mut Block, q: Wire, table: &mut [u32])
+    requires { Enterable b.old q.0 table.old }
+    ensures { Moves (Fold.rows_by (flip q.0) (Fold.entered (flip q.0) (rows_at b.old))) b.old b.new table.new }
 {
-    let at = b.enter(q, table, names, rows);
+    let at = b.enter(q, table);
     b.fold_x(at);
 }
 
-fn absorb_cnot(
-    b: &mut Block,
-    c: Wire,
-    t: Wire,
-    table: &mut [u32],
-    names: &mut [u32],
-    rows: &mut [Parity],
-)
-    requires { EnterableTwo b.old c.0 t.0 table.old names.old rows.old }
-    ensures { Moves (Fold.rows_by (cnot c.0 t.0) (Fold.entered (cnot c.0 t.0) (rows_at b.old names.old rows.old))) b.old b.new names.old rows.old table.new names.new rows.new }
+fn absorb_cnot(b: &mut Block, c: Wire, t: Wire, table: &mut [u32])
+    requires { EnterableTwo b.old c.0 t.0 table.old }
+    ensures { Moves (Fold.rows_by (cnot c.0 t.0) (Fold.entered (cnot c.0 t.0) (rows_at b.old))) b.old b.new table.new }
 {
-    let (control, target) = b.enter_two(c, t, table, names, &mut *rows);
-    b.fold_cnot(control, target, rows);
+    let (control, target) = b.enter_two(c, t, table);
+    b.fold_cnot(control, target);
 }
 
 fn absorb_turn(
@@ -44,18 +36,16 @@ fn absorb_turn(
     q: Wire,
     k: u8,
     table: &mut [u32],
-    names: &mut [u32],
-    rows: &mut [Parity],
     room: &mut [u64],
     heads: &mut [u32],
 )
-    requires enterable { Enterable b.old q.0 table.old names.old rows.old }
+    requires enterable { Enterable b.old q.0 table.old }
     requires terms_in_bounds { b.old.terms < length (terms_of room.old) }
     requires terms_bound { (b.old.terms < 2 ^ 32) × Indexed heads.old room.old b.old.terms }
-    ensures { Absorbs (Fold.absorb (phase k q.0) (block_at b.old names.old rows.old room.old)) b.old b.new names.old rows.old room.old table.new names.new rows.new room.new heads.new }
+    ensures { Absorbs (Fold.absorb (phase k q.0) (block_at b.old room.old)) b.old b.new room.old table.new room.new heads.new }
 {
-    let at = b.enter(q, table, names, &mut *rows);
-    b.fold_turn(at, k, &*rows, room, heads);
+    let at = b.enter(q, table);
+    b.fold_turn(at, k, room, heads);
 }
 
 fn absorb_cz(
@@ -63,18 +53,16 @@ fn absorb_cz(
     c: Wire,
     t: Wire,
     table: &mut [u32],
-    names: &mut [u32],
-    rows: &mut [Parity],
     room: &mut [u64],
     heads: &mut [u32],
 )
-    requires enterable_two { EnterableTwo b.old c.0 t.0 table.old names.old rows.old }
+    requires enterable_two { EnterableTwo b.old c.0 t.0 table.old }
     requires terms_in_bounds { b.old.terms + 3 ≤ length (terms_of room.old) }
     requires terms_bound { (b.old.terms + 3 ≤ 2 ^ 32) × Indexed heads.old room.old b.old.terms }
-    ensures { Absorbs (Fold.absorb (cz c.0 t.0) (block_at b.old names.old rows.old room.old)) b.old b.new names.old rows.old room.old table.new names.new rows.new room.new heads.new }
+    ensures { Absorbs (Fold.absorb (cz c.0 t.0) (block_at b.old room.old)) b.old b.new room.old table.new room.new heads.new }
 {
-    let (control, target) = b.enter_two(c, t, table, names, &mut *rows);
-    b.fold_cz(control, target, &*rows, room, heads);
+    let (control, target) = b.enter_two(c, t, table);
+    b.fold_cz(control, target, room, heads);
 }
 
 // The turn that a name stands for: t, tdg, s, sdg, z, by its place in a table. A chain of tests becomes a jump by the code, which random codes miss.
@@ -94,27 +82,19 @@ pub fn turn_of(code: u32, k: u8) -> u8
 }
 
 // One gate of the fragment.
-pub fn absorb(
-    b: &mut Block,
-    g: Gate,
-    table: &mut [u32],
-    names: &mut [u32],
-    rows: &mut [Parity],
-    room: &mut [u64],
-    heads: &mut [u32],
-)
-    requires { Absorbable b.old g table.old names.old rows.old room.old heads.old }
-    ensures { Absorbs (Fold.absorb (op (gate_of g)) (block_at b.old names.old rows.old room.old)) b.old b.new names.old rows.old room.old table.new names.new rows.new room.new heads.new }
+pub fn absorb(b: &mut Block, g: Gate, table: &mut [u32], room: &mut [u64], heads: &mut [u32])
+    requires { Absorbable b.old g table.old room.old heads.old }
+    ensures { Absorbs (Fold.absorb (op (gate_of g)) (block_at b.old room.old)) b.old b.new room.old table.new room.new heads.new }
 {
     let first = Wire(g.first);
     let second = Wire(g.second);
     match g.code {
-        CODE_X => absorb_x(b, first, table, names, rows),
-        CODE_CNOT => absorb_cnot(b, first, second, table, names, rows),
-        CODE_CZ => absorb_cz(b, first, second, table, names, rows, room, heads),
+        CODE_X => absorb_x(b, first, table),
+        CODE_CNOT => absorb_cnot(b, first, second, table),
+        CODE_CZ => absorb_cz(b, first, second, table, room, heads),
         code => {
             let k = turn_of(code, g.turn);
-            absorb_turn(b, first, k, table, names, rows, room, heads)
+            absorb_turn(b, first, k, table, room, heads)
         }
     }
 }

@@ -33,16 +33,16 @@ fold-grows p k (t ∷ ts) = split (eqb t.parity p) (λ e. rw e (omega arith)) (�
 
 module _ (p k : ℕ) (b r : State.Block) (room room' heads' : List ℕ) (few : b.terms ≤ length (terms_of room))
     (a : Adds (add_term p k (take b.terms (terms_of room))) r.terms room room' heads') where
-  pub folds-one : r.wires ≡ b.wires → r.flips ≡ b.flips → TurnsOne (add_term p k (terms_at b room)) b r room room' heads'
+  pub folds-one : r.wires ≡ b.wires → r.flips ≡ b.flips → r.names ≡ b.names → r.rows ≡ b.rows → TurnsOne (add_term p k (terms_at b room)) b r room room' heads'
   unfolding terms_at
-  folds-one w f =
+  folds-one w f m q =
       let e = a.begins in
       let s = length-take r.terms (terms_of room') in
       let t = ap length e.front ∙ e.many in
       let n = length-take-le b.terms (terms_of room) few in
       let ts : List Term = take b.terms (terms_of room) in
       record {
-        turns = record { wires = w; flips = f; folded = record { few = omega (arith, s, t); same = e.front }; grows = omega (arith, e.many, fold-grows p k ts); rest = a.rest; indexed = a.indexed };
+        turns = record { wires = w; flips = f; names = m; rows = q; folded = record { few = omega (arith, s, t); same = e.front }; grows = omega (arith, e.many, fold-grows p k ts); rest = a.rest; indexed = a.indexed };
         more = omega (arith, e.many, length-add_term p k ts);
       }
 
@@ -73,6 +73,8 @@ cz-turns x y z s t u b one two r room room1 room2 room3 heads1 heads2 heads3 fir
     record {
       wires = g.wires ∙ f.wires ∙ e.wires;
       flips = g.flips ∙ f.flips ∙ e.flips;
+      names = g.names ∙ f.names ∙ e.names;
+      rows = g.rows ∙ f.rows ∙ e.rows;
       folded = record { few = g.folded.few; same = g.folded.same ∙ m };
       grows = omega (arith, e.grows, f.grows, g.grows);
       rest =

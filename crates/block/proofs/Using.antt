@@ -16,11 +16,11 @@ use Rattle.block.specs.Steps.{Wired}
 use Rattle.block.specs.declared.Block as State
 use Rattle.block.proofs.Entering.{rowed-is}
 
-module _ {p : Block} {b : State.Block} {table names : List ℕ} {rows : List Parity} {room : List ℕ} (h : Holds p b table names rows room) where
-  pub holds_same : block_at b names rows room ≡ p
+module _ {p : Block} {b : State.Block} {table room : List ℕ} (h : Holds p b table room) where
+  pub holds_same : block_at b room ≡ p
   holds_same = ap₂ (λ rs ts. record { rows = rs; terms = ts }) h.rows_are.same h.terms-are.same
 
-  pub holds-sound : InStep b table names rows room
+  pub holds-sound : InStep b table room
   holds-sound = record { rows_are = rowed-is h.rows_are; terms-are = record { few = h.terms-are.few; same = refl } }
 
 pub wired-read : (w bits : ℕ) (p : Codes.Gate) (g : Gate) (table : List ℕ) → Fit w bits p.code p.first p.second p.third p.turn → Reads p g → length table ≡ w → Wired g table

@@ -6,7 +6,6 @@ use Rattle.rules.specs.Gate.{second, code_rz}
 use Rattle.rules.specs.Fold.{Term, join, add_term, signed}
 use Rattle.rules.specs.Close.{add_to}
 use Rattle.parity.specs.View.{val}
-use Rattle.parity.specs.declared.Parity.{Parity}
 use Rattle.terms.specs.Terms.{Indexed}
 use Rattle.rows.specs.Rows.{rows_of}
 use Rattle.block.specs.View.{rows_at, Joined, Folded, Rowed}
@@ -21,42 +20,42 @@ pub record Empty (b : Block) : Type 0 where
 
 -- ---- a wire joins
 
-pub record Enterable (b : Block) (q : ℕ) (table names : List ℕ) (rows : List Parity) : Type 0 where
-  pub rowed : Rowed b table names rows
+pub record Enterable (b : Block) (q : ℕ) (table : List ℕ) : Type 0 where
+  pub rowed : Rowed b table
   pub inside : q < length table
-  pub few : length (join q (rows_at b names rows)) ≤ max_columns
+  pub few : length (join q (rows_at b)) ≤ max_columns
 
-pub record EnterableTwo (b : Block) (c t : ℕ) (table names : List ℕ) (rows : List Parity) : Type 0 where
-  pub rowed : Rowed b table names rows
+pub record EnterableTwo (b : Block) (c t : ℕ) (table : List ℕ) : Type 0 where
+  pub rowed : Rowed b table
   pub control : c < length table
   pub target : t < length table
-  pub few : length (join t (join c (rows_at b names rows))) ≤ max_columns
+  pub few : length (join t (join c (rows_at b))) ≤ max_columns
 
--- behind the wires that have joined, names and rows are as they were
-pub record Behind (b : Block) (names : List ℕ) (rows : List Parity) (names' : List ℕ) (rows' : List Parity) : Type 0 where
-  pub names-rest : drop b.wires names' ≡ drop b.wires names
-  pub rows-rest : drop b.wires rows' ≡ drop b.wires rows
+-- behind the wires that have joined, r's names and rows are b's
+pub record Behind (b r : Block) : Type 0 where
+  pub names-rest : drop r.wires r.names ≡ drop r.wires b.names
+  pub rows-rest : drop r.wires r.rows ≡ drop r.wires b.rows
 
 -- r has the rows with q joined, at q's index; the indices of the wires before stay theirs
-pub record Enters (q : ℕ) (b : Block) (names : List ℕ) (rows : List Parity) (r : Block) (index : ℕ) (table' names' : List ℕ) (rows' : List Parity) : Type 0 where
-  pub joined : Joined (join q (rows_at b names rows)) r table' names' rows'
+pub record Enters (q : ℕ) (b r : Block) (index : ℕ) (table' : List ℕ) : Type 0 where
+  pub joined : Joined (join q (rows_at b)) r table'
   pub terms : r.terms ≡ b.terms
   pub more : b.wires ≤ r.wires
-  pub kept : (i : ℕ) → i < b.wires → get_or names' i 0 ≡ get_or names i 0
+  pub kept : (i : ℕ) → i < b.wires → get_or r.names i 0 ≡ get_or b.names i 0
   pub at : index < r.wires
-  pub name : get_or names' index 0 ≡ q
-  pub behind : Behind r names rows names' rows'
+  pub name : get_or r.names index 0 ≡ q
+  pub behind : Behind b r
 
 -- the same of two wires that join one after the other, at the indices i and j
-pub record EntersTwo (c t : ℕ) (b : Block) (names : List ℕ) (rows : List Parity) (r : Block) (i j : ℕ) (table' names' : List ℕ) (rows' : List Parity) : Type 0 where
-  pub joined : Joined (join t (join c (rows_at b names rows))) r table' names' rows'
+pub record EntersTwo (c t : ℕ) (b r : Block) (i j : ℕ) (table' : List ℕ) : Type 0 where
+  pub joined : Joined (join t (join c (rows_at b))) r table'
   pub terms : r.terms ≡ b.terms
   pub more : b.wires ≤ r.wires
   pub control : i < r.wires
   pub target : j < r.wires
-  pub control-name : get_or names' i 0 ≡ c
-  pub target_name : get_or names' j 0 ≡ t
-  pub behind : Behind r names rows names' rows'
+  pub control-name : get_or r.names i 0 ≡ c
+  pub target_name : get_or r.names j 0 ≡ t
+  pub behind : Behind b r
 
 -- ---- the folds, on local indices
 
@@ -65,17 +64,20 @@ pub record Flips (b : Block) (i : ℕ) (s : Bool) (r : Block) : Type 0 where
   pub wires : r.wires ≡ b.wires
   pub flips : val r.flips ≡ xor (val b.flips) (cond s (2 ^ i) 0)
   pub terms : r.terms ≡ b.terms
+  pub names : r.names ≡ b.names
 
 -- row c and the constant s are added to row t and its constant
-pub record Crosses (b : Block) (c t : ℕ) (s : Bool) (rows : List Parity) (r : Block) (rows' : List Parity) : Type 0 where
+pub record Crosses (b : Block) (c t : ℕ) (s : Bool) (r : Block) : Type 0 where
   pub flips : Flips b t s r
-  pub held : rows_of rows' ≡ add_to c t (rows_of rows)
-  pub rest : drop b.wires rows' ≡ drop b.wires rows
+  pub held : rows_of r.rows ≡ add_to c t (rows_of b.rows)
+  pub rest : drop b.wires r.rows ≡ drop b.wires b.rows
 
 -- only the terms change, and the heads are of their index; behind them the term room is as it was
 pub record Turns (ts : List Term) (b r : Block) (room room' heads' : List ℕ) : Type 0 where
   pub wires : r.wires ≡ b.wires
   pub flips : r.flips ≡ b.flips
+  pub names : r.names ≡ b.names
+  pub rows : r.rows ≡ b.rows
   pub folded : Folded ts r room'
   pub grows : b.terms ≤ r.terms
   pub rest : drop (term_width * r.terms) room' ≡ drop (term_width * r.terms) room

@@ -27,8 +27,8 @@ use Rattle.terms.proofs.Room.{room-length, room_take}
 use Rattle.rows.specs.Rows.{rows_of}
 use Rattle.rows.proofs.Room.{row_count}
 use Rattle.block.specs.declared.Block as State
-use Rattle.block.specs.View.{rows_from, row_at, rows_at, terms_at, block_at}
-use Rattle.block.proofs.Rowing.{row-eq, rows-length, rows_ext}
+use Rattle.block.specs.View.{names_of, rows_from, row_at, rows_at, terms_at, block_at}
+use Rattle.block.proofs.Rowing.{rows-length}
 use Rattle.block.proofs.Parts.{row-take}
 use Rattle.block.proofs.Using.{holds_same}
 use Rattle.std.specs.Prelude.{Result}
@@ -43,16 +43,10 @@ use Rattle.flush.proofs.Keeping.{writes}
 
 -- ---- the block
 
-pub block-cut : (b : State.Block) (names : List ℕ) (rows : List Parity) (room : List ℕ) → b.terms ≤ length (terms_of room)
-    → block_at b (take b.wires names) (take b.wires rows) (take (term_width * b.terms) room) ≡ block_at b names rows room
-unfolding rows_at terms_at
-block-cut b names rows room l =
-    let n = b.wires in
-    let v = val b.flips in
-    ap₂ (λ (rs : List Row) (ts : List Term). record { rows = rs; terms = ts })
-    (rows_ext (row_at (take n names) (rows_of (take n rows)) v) (row_at names (rows_of rows) v) n 0
-    (λ j l h. row-eq (get_or-take n names j 0 (omega arith)) (ap (λ (hs : List ℕ). get_or hs j 0) (row-take n rows) ∙ get_or-take n (rows_of rows) j 0 (omega arith)) refl))
-    (ap (take b.terms) (room_take b.terms room l) ∙ take-take b.terms b.terms (terms_of room) (le_refl _))
+pub block-cut : (b : State.Block) (room : List ℕ) → b.terms ≤ length (terms_of room) → block_at b (take (term_width * b.terms) room) ≡ block_at b room
+unfolding terms_at
+block-cut b room l =
+    ap (λ (ts : List Term). record { rows = rows_at b; terms = ts }) (ap (take b.terms) (room_take b.terms room l) ∙ take-take b.terms b.terms (terms_of room) (le_refl _))
 
 below-from : (m : ℕ) (f : ℕ → Row) (n i : ℕ) → RowsBelow m (rows_from f n i) → (j : ℕ) → i ≤ j → j < i + n → (f j).parity < 2 ^ m
 unfolding rows_from RowsBelow
@@ -61,12 +55,12 @@ below-from m f (suc n) i h j l k =
     same i j (λ e _. subst (λ (z : ℕ). (f z).parity < 2 ^ m) e h.0) (λ e _. below-from m f n (suc i) h.1 j (omega arith) (omega arith))
 
 -- the parities of a run's block are below 2 ^ n
-pub block-below : (run : List ℤ) (b : State.Block) (names : List ℕ) (rows : List Parity) (room : List ℕ) → block_at b names rows room ≡ block_of (gates_of run)
-    → (i : ℕ) → i < b.wires → get_or (rows_of rows) i 0 < 2 ^ b.wires
+pub block-below : (run : List ℤ) (b : State.Block) (room : List ℕ) → block_at b room ≡ block_of (gates_of run)
+    → (i : ℕ) → i < b.wires → get_or (rows_of b.rows) i 0 < 2 ^ b.wires
 unfolding rows_at block_of RowsBelow TermsBelow
-block-below run b names rows room e i l =
-    let f : ℕ → Row = row_at names (rows_of rows) (val b.flips) in
-    let h : InBounds (block_at b names rows room) = subst InBounds (sym e) (bounds-fold (map op (gates_of run)) empty (record { rows-below = tt; terms-below = tt })) in
+block-below run b room e i l =
+    let f : ℕ → Row = row_at b.names (rows_of b.rows) (val b.flips) in
+    let h : InBounds (block_at b room) = subst InBounds (sym e) (bounds-fold (map op (gates_of run)) empty (record { rows-below = tt; terms-below = tt })) in
     below-from b.wires f b.wires 0 (subst (λ (k : ℕ). RowsBelow k (rows_from f b.wires 0)) (rows-length f b.wires 0) h.rows-below) i (omega arith) (omega arith)
 
 -- ---- the budget
@@ -83,17 +77,17 @@ ceilings run t = nothing_counted t (length run / width)
 ceilings-are : (run : List ℤ) (t : ℕ) → t ≡ twos (gates_of run) → ceilings run t ≡ budget_of (gates_of run)
 ceilings-are run t e = rw (e, gates-length run)
 
-module _ {run place : List ℤ} {b : State.Block} {names : List ℕ} {rows : List Parity} {room : List ℕ} {nodes : List Slot} {held right : List Parity} {steps : List ℕ} (f : Fitted run place b names rows room nodes held right steps)
+module _ {run place : List ℤ} {b : State.Block} {room : List ℕ} {nodes : List Slot} {held right : List Parity} {steps : List ℕ} (f : Fitted run place b room nodes held right steps)
     {t : ℕ} (e : t ≡ twos (gates_of run)) where
   -- what the engine asks
-  pub asked : Rooms b names rows room nodes held right steps (length run / width) × Ready place (ceilings run t)
+  pub asked : Rooms b room nodes held right steps (length run / width) × Ready place (ceilings run t)
   asked = (
     rw (← gates-length run) f.rooms,
     record { two = omega arith; all = omega arith; room = omega (arith, f.fits); few = omega (arith, two-le (gates_of run), f.many) },
   )
 
   -- what it then has made
-  pub attempted : {after : List ℤ} (p : Result Code.Budget Spent) → Synthesizes (block_at b names rows room) place (ceilings run t) after (counts_after p) (made p)
+  pub attempted : {after : List ℤ} (p : Result Code.Budget Spent) → Synthesizes (block_at b room) place (ceilings run t) after (counts_after p) (made p)
       → Writes resynthesis (gates_of run) after p
   attempted {after} p h = writes (gates_of run) place after p (rw (← f.same, ← ceilings-are run t e) h)
 
@@ -108,12 +102,12 @@ made-fits bl before after b p h w = go (synth bl) refl
 
 -- ---- the parts that are lent
 
-module _ (run place : List ℤ) (b : State.Block) (table names : List ℕ) (rows : List Parity) (room steps : List ℕ) (f : Flushable run b table names rows room)
+module _ (run place : List ℤ) (b : State.Block) (table room steps : List ℕ) (f : Flushable run b table room)
     (l : Lent run place steps) where
   -- each room whose length is the caller's has the part that the block needs
   pub record Enough : Type 0 where
-    pub names_in : b.wires ≤ length names
-    pub rows_in : b.wires ≤ length rows
+    pub names_in : b.wires ≤ length b.names
+    pub rows_in : b.wires ≤ length b.rows
     pub terms-in : term_width * b.terms ≤ length room
     pub steps-in : step_width * (length (gates_of run) + 1) ≤ length steps
 
@@ -122,35 +116,35 @@ module _ (run place : List ℤ) (b : State.Block) (table names : List ℕ) (rows
       let j = f.holds.rows_are.joins in
       record {
         names_in = omega (arith, j.few, j.room);
-        rows_in = omega (arith, j.few, f.holds.rows_are.wide, row_count rows);
+        rows_in = omega (arith, j.few, f.holds.rows_are.wide, row_count b.rows);
         terms-in = omega (arith, f.holds.terms-are.few, room-length room);
         steps-in = l.long;
       }
 
   pub fitted : (nodes : List Slot) (held right : List Parity) → b.wires + 1 ≤ length nodes → b.wires ≤ length held → b.wires ≤ length right
-      → Fitted run place b (take b.wires names) (take b.wires rows) (take (term_width * b.terms) room) (take (b.wires + 1) nodes)
+      → Fitted run place b (take (term_width * b.terms) room) (take (b.wires + 1) nodes)
       (take b.wires held) (take b.wires right) (take (step_width * (length (gates_of run) + 1)) steps)
   fitted nodes held right ln lh lr =
       let n : ℕ = b.wires in
       let j = f.holds.rows_are.joins in
-      let same : block_at b names rows room ≡ block_of (gates_of run) = holds_same f.holds in
+      let same : block_at b room ≡ block_of (gates_of run) = holds_same f.holds in
       let t : b.terms ≤ length (terms_of room) = f.holds.terms-are.few in
-      let size : length (take n names) ≡ n = length-take-le n names enough.names_in in
+      let size : length (names_of b) ≡ n = length-take-le n b.names enough.names_in in
       record {
         many = l.many;
         fits = l.fits;
-        same = block-cut b names rows room t ∙ same;
+        same = block-cut b room t ∙ same;
         rooms = record {
           walkable = record {
             few = j.few;
             named = size;
-            wired = λ i h. let k : i < n = omega (arith, size) in rw (get_or-take n names i 0 k) (omega (arith, j.inside i k, f.wires));
+            wired = λ i h. let k : i < n = omega (arith, size) in rw (get_or-take n b.names i 0 k) (omega (arith, j.inside i k, f.wires));
             terms = omega (arith, ap length (room_take b.terms room t) ∙ length-take-le b.terms (terms_of room) t);
             deep = omega (arith, length-take-le (n + 1) nodes ln);
             held = length-take-le n held lh;
           };
-          wide = length-take-le n rows enough.rows_in;
-          below = λ i h. rw (row-take n rows, get_or-take n (rows_of rows) i 0 h) (block-below run b names rows room same i h);
+          wide = length-take-le n b.rows enough.rows_in;
+          below = λ i h. rw (row-take n b.rows, get_or-take n (rows_of b.rows) i 0 h) (block-below run b room same i h);
           right = length-take-le n right lr;
           long = omega (arith, length-take-le (step_width * (length (gates_of run) + 1)) steps enough.steps-in);
         };

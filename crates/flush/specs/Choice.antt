@@ -50,16 +50,16 @@ pub record Settles (write : Writer) (run place' : List ℤ) (r : Flushed) : Type
 -- ---- what is asked
 
 -- the rooms are the parts that the block needs, and hold the run's block; the place is as long as the run
-pub record Fitted (run place : List ℤ) (b : State.Block) (names : List ℕ) (rows : List Parity) (room : List ℕ) (nodes : List Slot) (from spare : List Parity) (steps : List ℕ) : Type 0 where
+pub record Fitted (run place : List ℤ) (b : State.Block) (room : List ℕ) (nodes : List Slot) (from spare : List Parity) (steps : List ℕ) : Type 0 where
   pub many : length (gates_of run) ≤ max_gates
   pub fits : length place ≡ length run
-  pub same : block_at b names rows room ≡ block_of (gates_of run)
-  pub rooms : Rooms b names rows room nodes from spare steps (length (gates_of run))
+  pub same : block_at b room ≡ block_of (gates_of run)
+  pub rooms : Rooms b room nodes from spare steps (length (gates_of run))
 
 -- a run that lies exactly, and its block
-pub record Flushable (run : List ℤ) (b : State.Block) (table names : List ℕ) (rows : List Parity) (room : List ℕ) : Type 0 where
+pub record Flushable (run : List ℤ) (b : State.Block) (table room : List ℕ) : Type 0 where
   pub exact : Exact run
-  pub holds : Block.Holds (block_of (gates_of run)) b table names rows room
+  pub holds : Block.Holds (block_of (gates_of run)) b table room
   pub wires : length table ≤ max_wires
 
 -- the place is as long as the run, and there are steps for the run's gates
@@ -71,6 +71,6 @@ pub record Lent (run place : List ℤ) (steps : List ℕ) : Type 0 where
 -- ---- what is promised
 
 -- the choice stands at the block's place, and no wire is joined any more
-pub record Flushes (write : Writer) (run place' : List ℤ) (table' names : List ℕ) (r : Flushed) : Type 0 where
+pub record Flushes (write : Writer) (run place' : List ℤ) (b : State.Block) (table' : List ℕ) (r : Flushed) : Type 0 where
   pub settles : Settles write run place' r
-  pub leaves : Leaves table' names
+  pub leaves : Leaves table' b.names

@@ -70,9 +70,7 @@ fn mark(run: &[i32], place: &mut [i32], p: Result<Budget, Spent>)
 fn attempt(
     run: &[i32],
     place: &mut [i32],
-    block: Block,
-    names: &[u32],
-    rows: &[Parity],
+    block: &Block,
     room: &mut [u64],
     nodes: &mut [Slot],
     held: &mut [Parity],
@@ -80,22 +78,11 @@ fn attempt(
     steps: &mut [u32],
     plan: Plan,
 ) -> Result<Budget, Spent>
-    requires { Fitted run.now place.old block names.now rows.now room.old nodes.old held.old right.old steps.old }
+    requires { Fitted run.now place.old block.now room.old nodes.old held.old right.old steps.old }
     ensures { Writes (writer_of (view plan)) (gates_of run.now) place.new result }
 {
     let b = Budget::new(gate::count_two(run), run.len() / GATE_WIDTH);
-    let p = synth::synthesize(
-        block,
-        names,
-        rows,
-        room,
-        nodes,
-        held,
-        right,
-        steps,
-        &mut *place,
-        b,
-    );
+    let p = synth::synthesize(block, room, nodes, held, right, steps, &mut *place, b);
     mark(run, place, p);
     p
 }
@@ -105,10 +92,8 @@ fn attempt(
 pub fn flush(
     run: &[i32],
     place: &mut [i32],
-    block: Block,
+    block: &Block,
     table: &mut [u32],
-    names: &[u32],
-    rows: &[Parity],
     room: &mut [u64],
     nodes: &mut [Slot; STACK],
     held: &mut [Parity; MAX_COLUMNS],
@@ -116,9 +101,9 @@ pub fn flush(
     steps: &mut [u32],
     plan: Plan,
 ) -> Flushed
-    requires flushable { Flushable run.now block table.old names.now rows.now room.old }
+    requires flushable { Flushable run.now block.now table.old room.old }
     requires lent { Lent run.now place.old steps.old }
-    ensures { Flushes (writer_of (view plan)) run.now place.new table.new names.now result }
+    ensures { Flushes (writer_of (view plan)) run.now place.new block.now table.new result }
 {
     let wires = block.wires;
     let n = wires as usize;
@@ -129,8 +114,6 @@ pub fn flush(
         run,
         &mut *place,
         block,
-        &names[..n],
-        &rows[..n],
         &mut room[..terms],
         &mut nodes[..stack],
         &mut held[..n],
@@ -139,6 +122,6 @@ pub fn flush(
         plan,
     );
     let r = settle(run, place, p);
-    join::leave(table, names, wires);
+    join::leave(table, &block.names, wires);
     r
 }

@@ -14,29 +14,29 @@ use Rattle.rules.proofs.Ceiling.{walk-fits, terms-few}
 use Rattle.parity.specs.declared.Parity.{Parity}
 use Rattle.walk.specs.declared.Slot.{Slot}
 use Rattle.block.specs.declared.Block as State
-use Rattle.block.specs.View.{terms_at}
+use Rattle.block.specs.View.{names_of, terms_at}
 use Rattle.flush.specs.Choice as First
 use Rattle.flush.specs.Choice.{Flushable}
 use Rattle.flush.proofs.Cutting as Cutting
 use Rattle.plain_flush.specs.Keeping.{Fitted, Lent}
 
-module _ (run place : List ℤ) (b : State.Block) (table names : List ℕ) (rows : List Parity) (room steps : List ℕ) (whole : List ℤ)
-    (f : Flushable run b table names rows room) (l : Lent run place b steps whole) where
+module _ (run place : List ℤ) (b : State.Block) (table room steps : List ℕ) (whole : List ℤ)
+    (f : Flushable run b table room) (l : Lent run place b steps whole) where
   pub first : First.Lent run place steps
   first = record { many = omega (arith, l.many); fits = l.fits; long = omega (arith, l.many, l.noted) }
 
   -- each room has the part that the block needs
-  pub enough : Cutting.Enough run place b table names rows room steps f first
-  enough = Cutting.enough run place b table names rows room steps f first
+  pub enough : Cutting.Enough run place b table room steps f first
+  enough = Cutting.enough run place b table room steps f first
 
   square : b.wires * b.wires ≤ plain_columns * plain_columns
   square = let e : b.wires * b.wires ≤ plain_columns * b.wires = mul-le-mul_right b.wires l.narrow in omega (arith, l.narrow)
 
   pub fitted : (nodes : List Slot) (held right : List Parity) → b.wires + 1 ≤ length nodes → b.wires ≤ length held → b.wires ≤ length right
-      → Fitted run place b (take b.wires names) (take b.wires rows) (take (term_width * b.terms) room) (take (b.wires + 1) nodes)
+      → Fitted run place b (take (term_width * b.terms) room) (take (b.wires + 1) nodes)
       (take b.wires held) (take b.wires right) steps whole
   fitted nodes held right ln lh lr =
-      let p = Cutting.fitted run place b table names rows room steps f first nodes held right ln lh lr in
+      let p = Cutting.fitted run place b table room steps f first nodes held right ln lh lr in
       let few : length (terms_at b (take (term_width * b.terms) room)) ≡ length (block_of (gates_of run)).terms = ap (λ (x : Block). length x.terms) p.same in
       record {
         fits = l.fits;
@@ -49,6 +49,6 @@ module _ (run place : List ℤ) (b : State.Block) (table names : List ℕ) (rows
             right = p.rooms.right;
             long = omega (arith, square, l.noted);
           };
-          long = omega (arith, square, l.narrow, l.long, walk-fits b.wires (take b.wires names) (terms_at b (take (term_width * b.terms) room)) l.narrow (omega (arith, few, terms-few (gates_of run) l.many)));
+          long = omega (arith, square, l.narrow, l.long, walk-fits b.wires (names_of b) (terms_at b (take (term_width * b.terms) room)) l.narrow (omega (arith, few, terms-few (gates_of run) l.many)));
         };
       }

@@ -20,10 +20,10 @@ pub record Keeps (write : Writer) (run place' : List ℤ) (r : Kept) : Type 0 wh
   pub twos : r.twos ≡ twos (write (gates_of run))
 
 -- the rooms are the parts that the block needs, and hold the run's block; the place is as long as the run
-pub record Fitted (run place : List ℤ) (b : State.Block) (names : List ℕ) (rows : List Parity) (room : List ℕ) (nodes : List Slot) (from spare : List Parity) (steps : List ℕ) (whole : List ℤ) : Type 0 where
+pub record Fitted (run place : List ℤ) (b : State.Block) (room : List ℕ) (nodes : List Slot) (from spare : List Parity) (steps : List ℕ) (whole : List ℤ) : Type 0 where
   pub fits : length place ≡ length run
-  pub same : block_at b names rows room ≡ block_of (gates_of run)
-  pub lent : Whole.Lent b names rows room nodes from spare steps whole
+  pub same : block_at b room ≡ block_of (gates_of run)
+  pub lent : Whole.Lent b room nodes from spare steps whole
 
 -- numbers of a step room that is enough for every closing map of the plain engine
 abbrev pub additions : ℕ
@@ -38,6 +38,6 @@ pub record Lent (run place : List ℤ) (b : State.Block) (steps : List ℕ) (who
   pub long : width * whole_gates ≤ length whole
 
 -- the choice stands at the block's place, and no wire is joined any more
-pub record Flushes (write : Writer) (run place' : List ℤ) (table' names : List ℕ) (r : Kept) : Type 0 where
+pub record Flushes (write : Writer) (run place' : List ℤ) (b : State.Block) (table' : List ℕ) (r : Kept) : Type 0 where
   pub keeps : Keeps write run place' r
-  pub leaves : Leaves table' names
+  pub leaves : Leaves table' b.names

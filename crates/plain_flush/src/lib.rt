@@ -74,9 +74,7 @@ fn keep(run: &[i32], place: &mut [i32], whole: &[i32], k: usize) -> Kept
 fn settle(
     run: &[i32],
     place: &mut [i32],
-    block: Block,
-    names: &[u32],
-    rows: &[Parity],
+    block: &Block,
     room: &mut [u64],
     nodes: &mut [Slot],
     held: &mut [Parity],
@@ -85,21 +83,12 @@ fn settle(
     whole: &mut [i32],
     plan: Plan,
 ) -> Kept
-    requires fitted { Fitted run.now place.old block names.now rows.now room.old nodes.old held.old right.old steps.old whole.old }
+    requires fitted { Fitted run.now place.old block.now room.old nodes.old held.old right.old steps.old whole.old }
     requires exact { Exact run.now }
     ensures { Keeps (writer_of (view plan)) run.now place.new result }
 {
-    let Some(k) = plain_synth::resynthesize(
-        block,
-        names,
-        rows,
-        room,
-        nodes,
-        held,
-        right,
-        steps,
-        &mut *whole,
-    ) else {
+    let Some(k) = plain_synth::resynthesize(block, room, nodes, held, right, steps, &mut *whole)
+    else {
         return stay(run, place, gate::count_two(run));
     };
     gate::stamp(&mut *whole, k, gate::line(run));
@@ -111,10 +100,8 @@ fn settle(
 pub fn flush(
     run: &[i32],
     place: &mut [i32],
-    block: Block,
+    block: &Block,
     table: &mut [u32],
-    names: &[u32],
-    rows: &[Parity],
     room: &mut [u64],
     nodes: &mut [Slot; STACK],
     held: &mut [Parity; MAX_COLUMNS],
@@ -123,9 +110,9 @@ pub fn flush(
     whole: &mut [i32],
     plan: Plan,
 ) -> Kept
-    requires flushable { Flushable run.now block table.old names.now rows.now room.old }
-    requires lent { Lent run.now place.old block steps.old whole.old }
-    ensures { Flushes (writer_of (view plan)) run.now place.new table.new names.now result }
+    requires flushable { Flushable run.now block.now table.old room.old }
+    requires lent { Lent run.now place.old block.now steps.old whole.old }
+    ensures { Flushes (writer_of (view plan)) run.now place.new block.now table.new result }
 {
     let wires = block.wires;
     let n = wires as usize;
@@ -135,8 +122,6 @@ pub fn flush(
         run,
         place,
         block,
-        &names[..n],
-        &rows[..n],
         &mut room[..terms],
         &mut nodes[..stack],
         &mut held[..n],
@@ -145,6 +130,6 @@ pub fn flush(
         whole,
         plan,
     );
-    join::leave(table, names, wires);
+    join::leave(table, &block.names, wires);
     r
 }

@@ -7,18 +7,18 @@ use Rattle.rules.specs.Gate.{Gate}
 use Rattle.rules.specs.Walk.{phase_walk}
 use Rattle.rules.specs.Synth.{emit}
 use Rattle.block.specs.declared.Block as State
-use Rattle.block.specs.View.{terms_at}
+use Rattle.block.specs.View.{names_of, terms_at}
 use Rattle.writing.specs.Written.{Stands, Fits}
 use Rattle.synth.specs.Resynthesis.{Rooms}
 
 -- the gates of the block's phase walk
-abbrev pub walk_of : State.Block → List ℕ → List ℕ → List Gate
-walk_of b names room = emit names (phase_walk b.wires (terms_at b room))
+abbrev pub walk_of : State.Block → List ℕ → List Gate
+walk_of b room = emit (names_of b) (phase_walk b.wires (terms_at b room))
 
 -- the rooms of a block of n wires, with steps for n squared additions, and a room that is long enough for the walk, for that many CNOTs and for an x on each wire
-pub record Lent (b : State.Block) (names : List ℕ) (rows : List Parity) (room : List ℕ) (nodes : List Slot) (from spare : List Parity) (steps : List ℕ) (whole : List ℤ) : Type 0 where
-  pub rooms : Rooms b names rows room nodes from spare steps (b.wires * b.wires)
-  pub long : Fits whole 0 (length (walk_of b names room) + b.wires * b.wires + b.wires)
+pub record Lent (b : State.Block) (room : List ℕ) (nodes : List Slot) (from spare : List Parity) (steps : List ℕ) (whole : List ℤ) : Type 0 where
+  pub rooms : Rooms b room nodes from spare steps (b.wires * b.wires)
+  pub long : Fits whole 0 (length (walk_of b room) + b.wires * b.wires + b.wires)
 
 -- these gates, k of them, are what was asked for, and the room begins with them
 pub record Made (o : Maybe.Option (List Gate)) (whole : List ℤ) (k : ℕ) : Type 0 where

@@ -9,7 +9,7 @@ ghost use Rattle.rules.specs.Synth.{synth};
 ghost use Rattle.parity.specs.View.{val};
 ghost use Rattle.rows.specs.Rows.{rows_of};
 ghost use Rattle.closing.specs.Emission.{Wired};
-ghost use Rattle.block.specs.View.{terms_at, block_at};
+ghost use Rattle.block.specs.View.{names_of, terms_at, block_at};
 ghost use Rattle.writing.specs.Written.{Wrote, Fits};
 ghost use Rattle.plain_walk.specs.Place.{Walks};
 ghost use Rattle.synth.specs.Flips.{flip_if, flips_from};
@@ -47,26 +47,24 @@ fn write_flips(flips: Parity, n: u32, names: &[u32], whole: &mut [i32], k: usize
 
 // The phase walk of the block's terms other than 0, from the unit rows.
 fn write_walk(
-    block: Block,
-    names: &[u32],
+    block: &Block,
     room: &mut [u64],
     nodes: &mut [Slot],
     held: &mut [Parity],
     whole: &mut [i32],
 ) -> usize
-    requires walkable { Walkable block names.now room.old nodes.old held.old }
-    requires fits { Fits whole.old 0 (length (walk_of block names.now room.old)) }
-    ensures { Walks names.now (phase_walk block.wires (terms_at block room.old)) whole.old 0 (units block.wires 0) whole.new result (rows_of held.new) }
+    requires walkable { Walkable block.now room.old nodes.old held.old }
+    requires fits { Fits whole.old 0 (length (walk_of block.now room.old)) }
+    ensures { Walks (names_of block.now) (phase_walk block.now.wires (terms_at block.now room.old)) whole.old 0 (units block.now.wires 0) whole.new result (rows_of held.new) }
 {
     rows::set_units(&mut *held);
+    let names = &block.names[..block.wires as usize];
     plain_walk::phase_walk(room, block.terms, block.wires, nodes, held, names, whole, 0)
 }
 
 // The block written again: the phase walk, the closing map to the block's own rows, the flips. How many gates they are; none where there is no closing map.
 pub fn resynthesize(
-    block: Block,
-    names: &[u32],
-    rows: &[Parity],
+    block: &Block,
     room: &mut [u64],
     nodes: &mut [Slot],
     held: &mut [Parity],
@@ -74,10 +72,20 @@ pub fn resynthesize(
     steps: &mut [u32],
     whole: &mut [i32],
 ) -> Option<usize>
-    requires { Lent block names.now rows.now room.old nodes.old held.old right.old steps.old whole.old }
-    ensures { Resynthesizes (synth (block_at block names.now rows.now room.old)) whole.new result }
+    requires { Lent block.now room.old nodes.old held.old right.old steps.old whole.old }
+    ensures { Resynthesizes (synth (block_at block.now room.old)) whole.new result }
 {
-    let walked = write_walk(block, names, room, nodes, &mut *held, &mut *whole);
-    let closed = plain_close::linear_synth(held, rows, right, names, steps, &mut *whole, walked)?;
+    let n = block.wires as usize;
+    let names = &block.names[..n];
+    let walked = write_walk(block, room, nodes, &mut *held, &mut *whole);
+    let closed = plain_close::linear_synth(
+        held,
+        &block.rows[..n],
+        right,
+        names,
+        steps,
+        &mut *whole,
+        walked,
+    )?;
     Some(write_flips(block.flips, block.wires, names, whole, closed))
 }

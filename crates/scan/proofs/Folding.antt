@@ -7,7 +7,7 @@ use native.Mathlib.Omega.{arith}
 use lib.IntN.{ℤ}
 use lib.ListN.{length, take, length-map}
 use lib.Seq.{length-take-le}
-use Rattle.rules.specs.Limits.{max_gates, term_entries}
+use Rattle.rules.specs.Limits.{max_columns, max_gates, term_entries}
 use Rattle.rules.specs.Gate as Paper
 use Rattle.rules.specs.Numbers.{gate_at, gates_from, gates_of}
 use Rattle.rules.specs.Meaning.{Op, op}
@@ -19,7 +19,7 @@ use Rattle.rules.proofs.Reading.{from-append, from-length}
 use Rattle.rules.proofs.Accepting.{fit_at}
 use Rattle.rules.proofs.Bounds.{fold-snoc, length-terms}
 use Rattle.rules.proofs.Scanning.{takes-narrow}
-use Rattle.parity.specs.declared.Parity.{Parity}
+use Rattle.rows.proofs.Room.{row_count}
 use Rattle.terms.specs.Terms.{terms_of}
 use Rattle.gate.specs.Writing.{gate_of}
 use Rattle.gate.specs.Reading.{Reads}
@@ -31,7 +31,7 @@ use Rattle.block.proofs.Codes.{op-read}
 use Rattle.block.proofs.Entering.{empty_holds}
 use Rattle.block.proofs.Folding.{terms-length}
 use Rattle.block.proofs.Using.{holds_same, holds-sound, wired-read}
-use Rattle.scan.specs.Scanning.{gates_in, most_heads, run, rest, Checked, Clear, Wide, Headed}
+use Rattle.scan.specs.Scanning.{gates_in, most_heads, run, rest, Checked, Clear, Headed}
 
 -- ---- runs of gates
 
@@ -108,35 +108,35 @@ pub cut_on : (p : Plan) (l : List ℤ) (i j : ℕ) → i ≤ j → j < gates_in 
     → cut p (run l i j) (rest l j) ≡ cut p (run l i (j + 1)) (rest l (j + 1))
 cut_on p l i j h k e = rw (rest-next l j k, run-next l i j h) (cut-one p (run l i j) (gate_at l j) (rest l (j + 1)) e)
 
-module _ (l : List ℤ) (table names : List ℕ) (rows : List Parity) (room : List ℕ) where
-  pub start : (i : ℕ) (b : State.Block) → Empty b → Clear l table room → Wide names rows → Holds (folded l i i) b table names rows room
-  start i b e c w = rw (folded-none l i) (empty_holds b table names rows room e c.clear w.named w.rowed)
+module _ (l : List ℤ) (table room : List ℕ) where
+  pub start : (i : ℕ) (b : State.Block) → Empty b → Clear l table room → max_columns ≤ length b.names → max_columns ≤ length b.rows → Holds (folded l i i) b table room
+  start i b e c n r = rw (folded-none l i) (empty_holds b table room e c.clear n (rw (row_count b.rows) r))
 
   pub wired : (w j : ℕ) (g : Gate) → Checked l w → j < gates_in l → Reads (gate_at l j) g → length table ≡ w → Wired g table
   wired w j g s h r e = wired-read w s.bits (gate_at l j) g table (fit_at l w s.bits j (s.each j h)) r e
 
-  pub spare : (i j : ℕ) (b : State.Block) → Holds (folded l i j) b table names rows room → j < gates_in l
+  pub spare : (i j : ℕ) (b : State.Block) → Holds (folded l i j) b table room → j < gates_in l
       → term_entries (gates_in l) ≤ length (terms_of room) → b.terms + 3 ≤ length (terms_of room)
   spare i j b h k m =
       let e : length (folded l i j).terms ≡ b.terms = terms-length h.terms-are in
       omega (arith, folded-terms l i j)
 
   -- their places fit a head
-  pub spare_low : (i j : ℕ) (b : State.Block) → Holds (folded l i j) b table names rows room → j < gates_in l → gates_in l ≤ max_gates → b.terms + 3 ≤ 2 ^ 32
+  pub spare_low : (i j : ℕ) (b : State.Block) → Holds (folded l i j) b table room → j < gates_in l → gates_in l ≤ max_gates → b.terms + 3 ≤ 2 ^ 32
   spare_low i j b h k m =
       let e : length (folded l i j).terms ≡ b.terms = terms-length h.terms-are in
       omega (arith, folded-terms l i j)
 
   -- the test's answer, of the block itself
-  pub asked : (i j : ℕ) (p : Plan) (g : Gate) (b : State.Block) (r : Bool) → Reads (gate_at l j) g → Holds (folded l i j) b table names rows room
-      → ((ns : List ℕ) → Rowed b table ns rows → r ≡ takes p (op (gate_of g)) (block_at b ns rows room)) → takes p (op (gate_at l j)) (folded l i j) ≡ r
+  pub asked : (i j : ℕ) (p : Plan) (g : Gate) (b : State.Block) (r : Bool) → Reads (gate_at l j) g → Holds (folded l i j) b table room
+      → (Rowed b table → r ≡ takes p (op (gate_of g)) (block_at b room)) → takes p (op (gate_at l j)) (folded l i j) ≡ r
   asked i j p g b r d h f =
-      ap (λ (o : Op). takes p o (folded l i j)) (sym (op-read (gate_at l j) g d)) ∙ ap (takes p (op (gate_of g))) (sym (holds_same h)) ∙ sym (f names (holds-sound h).rows_are)
+      ap (λ (o : Op). takes p o (folded l i j)) (sym (op-read (gate_at l j) g d)) ∙ ap (takes p (op (gate_of g))) (sym (holds_same h)) ∙ sym (f (holds-sound h).rows_are)
 
   -- the gate that was read, folded
-  pub next : (i j : ℕ) (g : Gate) (b r : State.Block) (table' names' : List ℕ) (rows' : List Parity) (room' : List ℕ) → i ≤ j → Reads (gate_at l j) g → Holds (folded l i j) b table names rows room
-      → Holds (Fold.absorb (op (gate_of g)) (block_at b names rows room)) r table' names' rows' room' → Holds (folded l i (j + 1)) r table' names' rows' room'
-  next i j g b r table' names' rows' room' o d h k =
+  pub next : (i j : ℕ) (g : Gate) (b r : State.Block) (table' room' : List ℕ) → i ≤ j → Reads (gate_at l j) g → Holds (folded l i j) b table room
+      → Holds (Fold.absorb (op (gate_of g)) (block_at b room)) r table' room' → Holds (folded l i (j + 1)) r table' room'
+  next i j g b r table' room' o d h k =
       rw (folded-next l i j o, ← op-read (gate_at l j) g d, ← holds_same h) k
 
 -- ---- the heads of the index, of a step room of n numbers

@@ -25,7 +25,6 @@ use Rattle.block.specs.View.{Holds}
 use Rattle.block.specs.declared.Block as State
 use Rattle.block.proofs.Entering.{wires-are}
 use Rattle.flush.specs.declared.Flushed.{Flushed}
-use Rattle.scan.specs.declared.Run.{Run}
 use Rattle.scan.specs.declared.Tally.{Tally}
 use Rattle.scan.proofs.Folding.{run_none, rest-next, rest-none, rest_all, block_none, folded-none}
 
@@ -84,7 +83,7 @@ module _ (write : Writer) (p : Plan) (l : List ℤ) (i : ℕ) where
   chosen-run j = omega (arith, (thrifty-le (chosen-thrifty write (run l i j))).0, from-length l (j - i) i)
 
 -- an empty run has joined no wire
-none-clear : (l : List ℤ) (i : ℕ) {b : State.Block} {table names : List ℕ} {rows : List Parity} {room : List ℕ} → Holds (block_of (run l i i)) b table names rows room → Unjoined table
+none-clear : (l : List ℤ) (i : ℕ) {b : State.Block} {table room : List ℕ} → Holds (block_of (run l i i)) b table room → Unjoined table
 none-clear l i {b} {table} h w = by (get_or table w 0) refl
   where
     none : b.wires ≡ 0
@@ -122,10 +121,10 @@ advance write p l s r out out' d st e h k few one less text gates blocks replace
   replaced = omega (arith, ap (λ (x : Result). x.replaced) e, st.replaced);
 }
 
-module _ (write : Writer) (p : Plan) (l : List ℤ) (s r : Tally) (out out' : List ℤ) (f : Run) {table names : List ℕ} {rows : List Parity} {room : List ℕ}
-    (st : Stands write p l s out) (stop : Stops p l s.at f table names rows room) where
+module _ (write : Writer) (p : Plan) (l : List ℤ) (s r : Tally) (out out' : List ℤ) {b : State.Block} (end : ℕ) {table room : List ℕ}
+    (st : Stands write p l s out) (stop : Stops p l s.at b end table room) where
   -- the run is empty: the gate was copied
-  pub copied-stands : f.end ≡ s.at → s.at < gates_in l → made out' (suc s.gates) ≡ made out s.gates ++ numbers (gate_at l f.end)
+  pub copied-stands : end ≡ s.at → s.at < gates_in l → made out' (suc s.gates) ≡ made out s.gates ++ numbers (gate_at l end)
       → r ≡ record { at = s.at + 1; gates = s.gates + 1; blocks = s.blocks; replaced = s.replaced }
       → Advances write p l s r out' table
   unfolding numbers_of
@@ -145,23 +144,23 @@ module _ (write : Writer) (p : Plan) (l : List ℤ) (s r : Tally) (out out' : Li
       }
 
   -- a block was closed
-  pub closed-stands : {g : Flushed} {table' : List ℕ} → s.at < f.end → Closes write l s.at f.end out s.gates out' table' g
-      → r ≡ record { at = f.end; gates = s.gates + g.gates; blocks = s.blocks + 1; replaced = s.replaced + cond g.replaced 1 0 }
+  pub closed-stands : {g : Flushed} {table' : List ℕ} → s.at < end → Closes write l s.at end out s.gates out' table' g
+      → r ≡ record { at = end; gates = s.gates + g.gates; blocks = s.blocks + 1; replaced = s.replaced + cond g.replaced 1 0 }
       → Advances write p l s r out' table'
   closed-stands {g} h c is =
-      let ours : List Gate = run l s.at f.end in
+      let ours : List Gate = run l s.at end in
       let d : Result = record { gates = chosen write ours; blocks = 1; replaced = cond (replaces write ours) 1 0 } in
-      let at : r.at ≡ f.end = ap (λ (x : Tally). x.at) is in
+      let at : r.at ≡ end = ap (λ (x : Tally). x.at) is in
       let gates : r.gates ≡ s.gates + g.gates = ap (λ (x : Tally). x.gates) is in
       let blocks : r.blocks ≡ s.blocks + 1 = ap (λ (x : Tally). x.blocks) is in
       let replaced : r.replaced ≡ s.replaced + cond g.replaced 1 0 = ap (λ (x : Tally). x.replaced) is in
-      let one : onward write p l s.at ≡ onto d (onward write p l f.end) =
-      piece-block write p l s.at f.end stop.inside stop.cuts stop.full
-      ∙ ap (λ (x : Result). onto x (onward write p l f.end)) (shut-run write p l s.at f.end h) in
+      let one : onward write p l s.at ≡ onto d (onward write p l end) =
+      piece-block write p l s.at end stop.inside stop.cuts stop.full
+      ∙ ap (λ (x : Result). onto x (onward write p l end)) (shut-run write p l s.at end h) in
       record {
         onward = omega arith;
         stands = advance write p l s r out out' d st (one ∙ ap (λ (j : ℕ). onto d (onward write p l j)) (sym at)) (omega arith) (omega (arith, stop.inside))
-            (omega (arith, chosen-run write p l s.at f.end)) (omega arith) (rw (← byte-cond (replaces write ours)) (byte_le (replaces write ours)))
+            (omega (arith, chosen-run write p l s.at end)) (omega arith) (rw (← byte-cond (replaces write ours)) (byte_le (replaces write ours)))
             (ap (made out') gates ∙ c.text) (gates ∙ ap (λ (n : ℕ). s.gates + n) c.gates) blocks (replaced ∙ ap (λ (b : Bool). s.replaced + cond b 1 0) c.replaced);
         clear = c.clear;
       }

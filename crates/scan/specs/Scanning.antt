@@ -8,14 +8,11 @@ use Rattle.rules.specs.Refusal.{fault_at}
 use Rattle.rules.specs.Synth.{block_of}
 use Rattle.rules.specs.Plan.{Plan}
 use Rattle.rules.specs.Scan.{takes, cut, Writer, chosen, replaces, Result, finish, pass_by}
-use Rattle.parity.specs.declared.Parity.{Parity}
 use Rattle.terms.specs.Terms.{terms_of}
-use Rattle.rows.specs.Rows.{rows_of}
 use Rattle.block.specs.View.{Holds}
 use Rattle.block.specs.declared.Block.{Block}
 use Rattle.flush.specs.Choice.{Exact}
 use Rattle.flush.specs.declared.Flushed.{Flushed}
-use Rattle.scan.specs.declared.Run.{Run}
 use Rattle.scan.specs.declared.Tally.{Tally}
 
 -- how many gates a list has
@@ -40,11 +37,6 @@ Unjoined table = (q : ℕ) → get_or table q 0 ≡ 0
 pub record Clear (l : List ℤ) (table room : List ℕ) : Type 0 where
   pub clear : Unjoined table
   pub terms : term_entries (gates_in l) ≤ length (terms_of room)
-
--- there is room for the rows and their names
-pub record Wide (names : List ℕ) (rows : List Parity) : Type 0 where
-  pub named : max_columns ≤ length names
-  pub rowed : max_columns ≤ length (rows_of rows)
 
 -- steps for the list's gates
 pub record Spared (l : List ℤ) (steps : List ℕ) : Type 0 where
@@ -75,22 +67,21 @@ run l i j = gates_from l (j - i) i
 abbrev pub rest : List ℤ → ℕ → List Gate
 rest l i = run l i (gates_in l)
 
--- a block can start at place i: the list is checked, the plan clamped, the rooms are clear and wide enough
-pub record Foldable (p : Plan) (l : List ℤ) (i : ℕ) (table names : List ℕ) (rows : List Parity) (room : List ℕ) : Type 0 where
+-- a block can start at place i: the list is checked, the plan clamped, the rooms are clear and long enough
+pub record Foldable (p : Plan) (l : List ℤ) (i : ℕ) (table room : List ℕ) : Type 0 where
   pub checked : Checked l (length table)
   pub capped : p.qubits ≤ max_columns
   pub inside : i ≤ gates_in l
   pub clear : Clear l table room
-  pub wide : Wide names rows
 
--- the block took the gates up to the run's end within the qubit cap, and can't take the next
-pub record Stops (p : Plan) (l : List ℤ) (i : ℕ) (r : Run) (table names : List ℕ) (rows : List Parity) (room : List ℕ) : Type 0 where
-  pub onward : i ≤ r.end
-  pub inside : r.end ≤ gates_in l
-  pub holds : Holds (block_of (run l i r.end)) r.block table names rows room
-  pub narrow : length (block_of (run l i r.end)).rows ≤ p.qubits
-  pub cuts : cut p [] (rest l i) ≡ cut p (run l i r.end) (rest l r.end)
-  pub full : r.end < gates_in l → takes p (op (gate_at l r.end)) (block_of (run l i r.end)) ≡ false
+-- the block took the gates up to place j within the qubit cap, and can't take the next
+pub record Stops (p : Plan) (l : List ℤ) (i : ℕ) (b : Block) (j : ℕ) (table room : List ℕ) : Type 0 where
+  pub onward : i ≤ j
+  pub inside : j ≤ gates_in l
+  pub holds : Holds (block_of (run l i j)) b table room
+  pub narrow : length (block_of (run l i j)).rows ≤ p.qubits
+  pub cuts : cut p [] (rest l i) ≡ cut p (run l i j) (rest l j)
+  pub full : j < gates_in l → takes p (op (gate_at l j)) (block_of (run l i j)) ≡ false
 
 -- ---- a piece is written behind the m gates that are there
 
@@ -99,13 +90,13 @@ abbrev pub made : List ℤ → ℕ → List ℤ
 made out m = take (width * m) out
 
 -- the run lies in the list, and its place behind the m gates in the output; state and rooms hold its block
-pub record Closable (l : List ℤ) (i j : ℕ) (b : Block) (out : List ℤ) (m : ℕ) (table names : List ℕ) (rows : List Parity) (room : List ℕ) : Type 0 where
+pub record Closable (l : List ℤ) (i j : ℕ) (b : Block) (out : List ℤ) (m : ℕ) (table room : List ℕ) : Type 0 where
   pub checked : Checked l (length table)
   pub onward : i ≤ j
   pub inside : j ≤ gates_in l
   pub behind : m ≤ i
   pub fits : length out ≡ length l
-  pub holds : Holds (block_of (run l i j)) b table names rows room
+  pub holds : Holds (block_of (run l i j)) b table room
 
 -- the chosen gates follow, and no wire is joined any more
 pub record Closes (write : Writer) (l : List ℤ) (i j : ℕ) (out : List ℤ) (m : ℕ) (out' : List ℤ) (table : List ℕ) (f : Flushed) : Type 0 where

@@ -19,13 +19,6 @@ use walk::Slot;
 // Heads of an index at most: 16 KB of numbers, so that they stay near.
 pub const HEADS: usize = 4096;
 
-// The block of a run of gates, and the place behind the run.
-#[derive(Clone, Copy)]
-pub struct Run {
-    pub block: Block,
-    pub end: usize,
-}
-
 // The next gate, and what was made of those before: gates written, blocks closed, blocks replaced.
 #[derive(Clone, Copy)]
 pub struct Tally {
@@ -88,20 +81,18 @@ pub trait Engine {
         &mut self,
         run: &[i32],
         place: &mut [i32],
-        block: Block,
+        block: &Block,
         table: &mut [u32],
-        names: &[u32],
-        rows: &[Parity],
         room: &mut [u64],
         steps: &mut [u32],
         whole: &mut [i32],
         plan: Plan,
     ) -> Flushed
-        requires flushable { Flushable run.now block table.old names.now rows.now room.old }
+        requires flushable { Flushable run.now block.now table.old room.old }
         requires lent { Lent run.now place.old steps.old }
-        requires few { (length (gates_of run.now) ≤ most_gates) × (block.wires ≤ most_wires) }
+        requires few { (length (gates_of run.now) ≤ most_gates) × (block.now.wires ≤ most_wires) }
         requires long { needs ≤ length whole.old }
-        ensures { Flushes (writer_of (view plan)) run.now place.new table.new names.now result };
+        ensures { Flushes (writer_of (view plan)) run.now place.new block.now table.new result };
 }
 
 // The first engine's rooms, made once for all blocks.
@@ -134,10 +125,8 @@ impl Engine for Rooms {
         &mut self,
         run: &[i32],
         place: &mut [i32],
-        block: Block,
+        block: &Block,
         table: &mut [u32],
-        names: &[u32],
-        rows: &[Parity],
         room: &mut [u64],
         steps: &mut [u32],
         _whole: &mut [i32],
@@ -148,8 +137,6 @@ impl Engine for Rooms {
             place,
             block,
             table,
-            names,
-            rows,
             room,
             &mut self.nodes,
             &mut self.held,
@@ -160,39 +147,33 @@ impl Engine for Rooms {
     }
 }
 
-// The gates from `start` on, folded onto an empty block as far as it takes them. `heads` are for the index of its terms, and may hold any numbers.
+// The gates from `start` on, folded onto the emptied block as far as it takes them; the place behind them. `heads` are for the index of its terms, and may hold any numbers.
 pub fn fold_run(
     list: &[i32],
     start: usize,
+    block: &mut Block,
     table: &mut [u32],
-    names: &mut [u32],
-    rows: &mut [Parity],
     room: &mut [u64],
     plan: Plan,
     heads: &mut [u32],
-) -> Run
-    requires foldable { Foldable (view plan) list.now start table.old names.old rows.old room.old }
+) -> usize
+    requires foldable { Foldable (view plan) list.now start table.old room.old }
     requires headed { Headed heads.old }
-    ensures { Stops (view plan) list.now start result table.new names.new rows.new room.new }
+    ensures { Stops (view plan) list.now start block.new result table.new room.new }
 {
     let n = list.len() / GATE_WIDTH;
-    let mut b = Block::empty();
+    block.clear();
+    // As their types say, which the proof of the loop reads from here.
+    prove!(block.names[..].len() == MAX_COLUMNS);
+    prove!(block.rows[..].len() == MAX_COLUMNS);
     for i in start..n {
         let g = gate::read(list, i);
-        if !taking::takes(b, g, &*table, &*rows, &*room, plan, &*heads) {
-            return Run { block: b, end: i };
+        if !taking::takes(&*block, g, &*table, &*room, plan, &*heads) {
+            return i;
         }
-        absorb::absorb(
-            &mut b,
-            g,
-            &mut *table,
-            &mut *names,
-            &mut *rows,
-            &mut *room,
-            &mut *heads,
-        );
+        absorb::absorb(&mut *block, g, &mut *table, &mut *room, &mut *heads);
     }
-    Run { block: b, end: n }
+    n
 }
 
 // How many heads stand at the front of a step room, which is free while a block is folded.
@@ -207,21 +188,19 @@ fn close<E: Engine>(
     list: &[i32],
     start: usize,
     end: usize,
-    block: Block,
+    block: &Block,
     out: &mut [i32],
     m: usize,
     table: &mut [u32],
-    names: &[u32],
-    rows: &[Parity],
     room: &mut [u64],
     steps: &mut [u32],
     whole: &mut [i32],
     plan: Plan,
     engine: &mut E,
 ) -> Flushed
-    requires closable { Closable list.now start end block out.old m table.old names.now rows.now room.old }
+    requires closable { Closable list.now start end block.now out.old m table.old room.old }
     requires spared { Spared list.now steps.old }
-    requires suits { Suits E.most_gates E.most_wires E.needs list.now block.wires whole.old }
+    requires suits { Suits E.most_gates E.most_wires E.needs list.now block.now.wires whole.old }
     ensures { Closes (writer_of (view plan)) list.now start end out.old m out.new table.new result }
 {
     let from = GATE_WIDTH * start;
@@ -232,8 +211,6 @@ fn close<E: Engine>(
         &mut out[at..at + (to - from)],
         block,
         table,
-        names,
-        rows,
         room,
         steps,
         whole,
@@ -255,9 +232,8 @@ pub fn copy_gate(list: &[i32], i: usize, out: &mut [i32], m: usize)
 fn piece<E: Engine>(
     list: &[i32],
     s: Tally,
+    block: &mut Block,
     table: &mut [u32],
-    names: &mut [u32; MAX_COLUMNS],
-    rows: &mut [Parity; MAX_COLUMNS],
     out: &mut [i32],
     room: &mut [u64],
     steps: &mut [u32],
@@ -270,24 +246,21 @@ fn piece<E: Engine>(
     ensures { Advances (writer_of (view plan)) (view plan) list.now s result out.new table.new }
 {
     let most = heads_in(steps.len());
-    let run = fold_run(
+    let end = fold_run(
         list,
         s.at,
+        &mut *block,
         &mut *table,
-        &mut *names,
-        &mut *rows,
         &mut *room,
         plan,
         &mut steps[..most],
     );
-    let end = run.end;
     if end == s.at {
         copy_gate(list, end, out, s.gates);
         return s.copied();
     }
     let f = close(
-        list, s.at, end, run.block, out, s.gates, table, &*names, &*rows, room, steps, whole, plan,
-        engine,
+        list, s.at, end, &*block, out, s.gates, table, room, steps, whole, plan, engine,
     );
     s.closed(end, f)
 }
@@ -309,16 +282,14 @@ pub fn scan_by<E: Engine>(
     ensures { Scans (writer_of (view plan)) (view plan) list.now out.new table.new result }
 {
     let n = list.len() / GATE_WIDTH;
-    let mut names = [0u32; MAX_COLUMNS];
-    let mut rows = [Parity::zero(); MAX_COLUMNS];
+    let mut block = Block::new();
     let mut s = Tally::new();
     while s.at < n {
         s = piece(
             list,
             s,
+            &mut block,
             &mut *table,
-            &mut names,
-            &mut rows,
             &mut *out,
             &mut *room,
             &mut *steps,

@@ -12,22 +12,23 @@ use Rattle.emit.specs.Emitted.{Emits}
 use Rattle.parity.specs.declared.Parity.{Parity}
 use Rattle.walk.specs.declared.Slot.{Slot}
 use Rattle.closing.specs.Emission.{Wired, step_room}
+use Rattle.block.specs.View.{names_of, held_of}
 use Rattle.block.specs.declared.Block as State
 
--- rooms of the block's n wires for its walk: their names, a matrix, the terms, a node more than wires
-pub record Walkable (b : State.Block) (names room : List ℕ) (nodes : List Slot) (from : List Parity) : Type 0 where
+-- rooms of the block's n wires for its walk: a matrix, the terms, a node more than wires
+pub record Walkable (b : State.Block) (room : List ℕ) (nodes : List Slot) (from : List Parity) : Type 0 where
   pub few : b.wires ≤ max_columns
-  pub named : length names ≡ b.wires
-  pub wired : Wired names
+  pub named : length (names_of b) ≡ b.wires
+  pub wired : Wired (names_of b)
   pub terms : b.terms ≤ length (terms_of room)
   pub deep : b.wires + 1 ≤ length nodes
   pub held : length from ≡ b.wires
 
--- and for the rest: the block's rows, one more matrix, and steps for all gates that the budget allows
-pub record Rooms (b : State.Block) (names : List ℕ) (rows : List Parity) (room : List ℕ) (nodes : List Slot) (from spare : List Parity) (steps : List ℕ) (most : ℕ) : Type 0 where
-  pub walkable : Walkable b names room nodes from
-  pub wide : length rows ≡ b.wires
-  pub below : (i : ℕ) → i < b.wires → get_or (rows_of rows) i 0 < 2 ^ b.wires
+-- and for the rest: one more matrix, and steps for all gates that the budget allows
+pub record Rooms (b : State.Block) (room : List ℕ) (nodes : List Slot) (from spare : List Parity) (steps : List ℕ) (most : ℕ) : Type 0 where
+  pub walkable : Walkable b room nodes from
+  pub wide : length (held_of b) ≡ b.wires
+  pub below : (i : ℕ) → i < b.wires → get_or (rows_of (held_of b)) i 0 < 2 ^ b.wires
   pub right : length spare ≡ b.wires
   pub long : step_room most b.wires ≤ length steps
 

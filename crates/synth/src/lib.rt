@@ -9,7 +9,7 @@ ghost use Rattle.budget.specs.View.{view, counts_after, made};
 ghost use Rattle.emit.specs.Emitted.{Ready, Emits};
 ghost use Rattle.rows.specs.Rows.{rows_of};
 ghost use Rattle.walk.specs.Place.{Synthesized};
-ghost use Rattle.block.specs.View.{terms_at, block_at};
+ghost use Rattle.block.specs.View.{names_of, terms_at, block_at};
 ghost use Rattle.synth.specs.Flips.{flip_if, flips_from};
 ghost use Rattle.synth.specs.Resynthesis.{Walkable, Rooms, Synthesizes};
 
@@ -52,30 +52,28 @@ fn emit_flips(
 
 // The phase walk of the block's terms other than 0, from the unit rows.
 fn emit_walk(
-    block: Block,
-    names: &[u32],
+    block: &Block,
     room: &mut [u64],
     nodes: &mut [Slot],
     held: &mut [Parity],
     out: &mut [i32],
     b: Budget,
 ) -> Result<Budget, Spent>
-    requires walkable { Walkable block names.now room.old nodes.old held.old }
+    requires walkable { Walkable block.now room.old nodes.old held.old }
     requires ready { Ready out.old (view b) }
-    ensures { Synthesized names.now (phase_walk block.wires (terms_at block room.old)) out.old (view b) (units block.wires 0) out.new (counts_after result) (rows_of held.new) (made result) }
+    ensures { Synthesized (names_of block.now) (phase_walk block.now.wires (terms_at block.now room.old)) out.old (view b) (units block.now.wires 0) out.new (counts_after result) (rows_of held.new) (made result) }
 {
     let count = block.terms;
     let entering = terms::compact(&mut *room, count);
     let end = TERM_WIDTH * entering;
     rows::set_units(&mut *held);
+    let names = &block.names[..block.wires as usize];
     walk::gray_synth(&mut room[..end], block.wires, nodes, held, names, out, b)
 }
 
 // The block written again: the phase walk, the closing map to the block's own rows, the flips. Each stops at once when the budget is spent.
 pub fn synthesize(
-    block: Block,
-    names: &[u32],
-    rows: &[Parity],
+    block: &Block,
     room: &mut [u64],
     nodes: &mut [Slot],
     held: &mut [Parity],
@@ -84,11 +82,21 @@ pub fn synthesize(
     out: &mut [i32],
     b: Budget,
 ) -> Result<Budget, Spent>
-    requires rooms { Rooms block names.now rows.now room.old nodes.old held.old right.old steps.old b.maxall }
+    requires rooms { Rooms block.now room.old nodes.old held.old right.old steps.old b.maxall }
     requires ready { Ready out.old (view b) }
-    ensures { Synthesizes (block_at block names.now rows.now room.old) out.old (view b) out.new (counts_after result) (made result) }
+    ensures { Synthesizes (block_at block.now room.old) out.old (view b) out.new (counts_after result) (made result) }
 {
-    let walked = emit_walk(block, names, room, nodes, &mut *held, &mut *out, b)?;
-    let closed = closing::linear_synth(held, rows, right, names, steps, &mut *out, walked)?;
+    let n = block.wires as usize;
+    let names = &block.names[..n];
+    let walked = emit_walk(block, room, nodes, &mut *held, &mut *out, b)?;
+    let closed = closing::linear_synth(
+        held,
+        &block.rows[..n],
+        right,
+        names,
+        steps,
+        &mut *out,
+        walked,
+    )?;
     emit_flips(block.flips, block.wires, names, out, closed)
 }

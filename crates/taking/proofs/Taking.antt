@@ -71,57 +71,57 @@ parity-new n v x held e f = rw e f
 flipped : (v : ℕ) → cond (not (eqb v 0)) 0 1 ≡ new v
 flipped v = split (eqb v 0) (λ e. rw e) (λ e. rw e)
 
-module _ {b : State.Block} {table names : List ℕ} {rows : List Parity} (h : Rowed b table names rows) where
-  pub fits_one : (q : ℕ) → length (join q (rows_at b names rows)) ≡ b.wires + new (get_or table q 0)
+module _ {b : State.Block} {table : List ℕ} (h : Rowed b table) where
+  pub fits_one : (q : ℕ) → length (join q (rows_at b)) ≡ b.wires + new (get_or table q 0)
   fits_one q =
-      join-size q (rows_at b names rows)
+      join-size q (rows_at b)
       ∙ ap₂ ◌+◌ (wires-are h) (ap (λ (t : Bool). cond t 0 1) (joined_is h q) ∙ flipped (get_or table q 0))
 
-  pub fits-two : (c t : ℕ) → c ≢ t → length (join t (join c (rows_at b names rows))) ≡ b.wires + new (get_or table c 0) + new (get_or table t 0)
+  pub fits-two : (c t : ℕ) → c ≢ t → length (join t (join c (rows_at b))) ≡ b.wires + new (get_or table c 0) + new (get_or table t 0)
   fits-two c t n =
-      join-size t (join c (rows_at b names rows))
-      ∙ ap₂ ◌+◌ (fits_one c) (ap (λ (s : Bool). cond s 0 1) (joined-other c t (rows_at b names rows) n ∙ joined_is h t) ∙ flipped (get_or table t 0))
+      join-size t (join c (rows_at b))
+      ∙ ap₂ ◌+◌ (fits_one c) (ap (λ (s : Bool). cond s 0 1) (joined-other c t (rows_at b) n ∙ joined_is h t) ∙ flipped (get_or table t 0))
 
-  pub parity-is : (q : ℕ) → (row_of q (join q (rows_at b names rows))).parity ≡ parity_at b.wires (rows_of rows) (get_or table q 0)
+  pub parity-is : (q : ℕ) → (row_of q (join q (rows_at b))).parity ≡ parity_at b.wires (rows_of b.rows) (get_or table q 0)
   parity-is q = go (get_or table q 0) refl
     where
-      go : (v : ℕ) → get_or table q 0 ≡ v → (row_of q (join q (rows_at b names rows))).parity ≡ parity_at b.wires (rows_of rows) v
+      go : (v : ℕ) → get_or table q 0 ≡ v → (row_of q (join q (rows_at b))).parity ≡ parity_at b.wires (rows_of b.rows) v
       go zero e =
-          let j : joined q (rows_at b names rows) ≡ false = joined_is h q ∙ ap (λ (v : ℕ). not (eqb v 0)) e in
-          ap (λ (rs : List Row). (row_of q rs).parity) (join-new q (rows_at b names rows) j)
-          ∙ ap (λ (r : Row). r.parity) (row_last q (rows_at b names rows) (fresh q (length (rows_at b names rows))) j refl)
-          ∙ parity-new b.wires 0 (2 ^ length (rows_at b names rows)) (rows_of rows) refl (ap (λ (k : ℕ). 2 ^ k) (wires-are h))
+          let j : joined q (rows_at b) ≡ false = joined_is h q ∙ ap (λ (v : ℕ). not (eqb v 0)) e in
+          ap (λ (rs : List Row). (row_of q rs).parity) (join-new q (rows_at b) j)
+          ∙ ap (λ (r : Row). r.parity) (row_last q (rows_at b) (fresh q (length (rows_at b))) j refl)
+          ∙ parity-new b.wires 0 (2 ^ length (rows_at b)) (rows_of b.rows) refl (ap (λ (k : ℕ). 2 ^ k) (wires-are h))
       go (suc i) e =
-          let j : joined q (rows_at b names rows) ≡ true = joined_is h q ∙ ap (λ (v : ℕ). not (eqb v 0)) e ∙ ap not (ne_eqb (suc i) 0 (λ z. omega arith)) in
+          let j : joined q (rows_at b) ≡ true = joined_is h q ∙ ap (λ (v : ℕ). not (eqb v 0)) e ∙ ap not (ne_eqb (suc i) 0 (λ z. omega arith)) in
           let k = h.joins.back q i e in
-          ap (λ (rs : List Row). (row_of q rs).parity) (join-old q (rows_at b names rows) j) ∙ ap (λ (r : Row). r.parity) (row_is h i q k.0 k.1)
-          ∙ parity-old b.wires (suc i) i (get_or (rows_of rows) i 0) (rows_of rows) refl refl
+          ap (λ (rs : List Row). (row_of q rs).parity) (join-old q (rows_at b) j) ∙ ap (λ (r : Row). r.parity) (row_is h i q k.0 k.1)
+          ∙ parity-old b.wires (suc i) i (get_or (rows_of b.rows) i 0) (rows_of b.rows) refl refl
 
   module _ (room : List ℕ) (p : Plan) where
-    takes-x : (q : ℕ) → leb (b.wires + new (get_or table q 0)) p.qubits ≡ takes p (flip q) (block_at b names rows room)
+    takes-x : (q : ℕ) → leb (b.wires + new (get_or table q 0)) p.qubits ≡ takes p (flip q) (block_at b room)
     unfolding takes entered roomy
     takes-x q = rw (fits_one q) (sym (and-true (leb (b.wires + new (get_or table q 0)) p.qubits)))
 
-    takes-cnot : (c t : ℕ) → c ≢ t → leb (b.wires + new (get_or table c 0) + new (get_or table t 0)) p.qubits ≡ takes p (cnot c t) (block_at b names rows room)
+    takes-cnot : (c t : ℕ) → c ≢ t → leb (b.wires + new (get_or table c 0) + new (get_or table t 0)) p.qubits ≡ takes p (cnot c t) (block_at b room)
     unfolding takes entered roomy
     takes-cnot c t n = rw (fits-two c t n) (sym (and-true (leb (b.wires + new (get_or table c 0) + new (get_or table t 0)) p.qubits)))
 
-    takes-cz : (c t : ℕ) → c ≢ t → leb (b.wires + new (get_or table c 0) + new (get_or table t 0)) p.qubits ≡ takes p (cz c t) (block_at b names rows room)
+    takes-cz : (c t : ℕ) → c ≢ t → leb (b.wires + new (get_or table c 0) + new (get_or table t 0)) p.qubits ≡ takes p (cz c t) (block_at b room)
     unfolding takes entered roomy
     takes-cz c t n = rw (fits-two c t n) (sym (and-true (leb (b.wires + new (get_or table c 0) + new (get_or table t 0)) p.qubits)))
 
-    pub takes-other : false ≡ takes p other (block_at b names rows room)
+    pub takes-other : false ≡ takes p other (block_at b room)
     unfolding takes
     takes-other = refl
 
     takes-phase : (k q : ℕ) → Folded (terms_at b room) b room
-        → takes p (phase k q) (block_at b names rows room)
-        ≡ (leb (b.wires + new (get_or table q 0)) p.qubits && (has_term (parity_at b.wires (rows_of rows) (get_or table q 0)) (terms_at b room) || ltb b.terms p.terms))
+        → takes p (phase k q) (block_at b room)
+        ≡ (leb (b.wires + new (get_or table q 0)) p.qubits && (has_term (parity_at b.wires (rows_of b.rows) (get_or table q 0)) (terms_at b room) || ltb b.terms p.terms))
     unfolding takes entered roomy
     takes-phase k q f = rw (fits_one q, parity-is q, terms-length f)
 
     takes_two : (g : Gate) → 8 ≤ g.code → g.code ≤ 9 → g.first ≢ g.second
-        → leb (b.wires + new (get_or table g.first 0) + new (get_or table g.second 0)) p.qubits ≡ takes p (op (gate_of g)) (block_at b names rows room)
+        → leb (b.wires + new (get_or table g.first 0) + new (get_or table g.second 0)) p.qubits ≡ takes p (op (gate_of g)) (block_at b room)
     takes_two g l m n =
         same g.code 8
         (λ e t. rw (op-cnot g e) (takes-cnot g.first g.second n))
@@ -129,9 +129,9 @@ module _ {b : State.Block} {table names : List ℕ} {rows : List Parity} (h : Ro
 
     -- the one test of a gate of the fragment, by the entries of its wires
     pub takes-is : (g : Gate) → 1 ≤ g.code → g.code ≤ 9 → (second g.code ≡ true → g.first ≢ g.second) → Folded (terms_at b room) b room
-        → takes p (op (gate_of g)) (block_at b names rows room)
+        → takes p (op (gate_of g)) (block_at b room)
         ≡ (leb (b.wires + new (get_or table g.first 0) + cond (leb 8 g.code) (new (get_or table (last_wire g) 0)) 0) p.qubits
-        && (leb 8 g.code || (eqb g.code 1 || (has_term (parity_at b.wires (rows_of rows) (get_or table g.first 0)) (terms_at b room) || ltb b.terms p.terms))))
+        && (leb 8 g.code || (eqb g.code 1 || (has_term (parity_at b.wires (rows_of b.rows) (get_or table g.first 0)) (terms_at b room) || ltb b.terms p.terms))))
     takes-is g l m n f =
         split (leb 8 g.code)
         (λ e. let k : 8 ≤ g.code = leb-true 8 g.code e in
@@ -159,8 +159,8 @@ searched n p q found room m f g =
     told (Some i) f = sym (lt-ltb _ _ f.0)
 
 -- what the test asks, of a state that stands for a block
-pub ask-ready : {p : Block} {b : State.Block} {table names : List ℕ} {rows : List Parity} {room heads : List ℕ} → Holds p b table names rows room
-    → (g : Gate) (cap : ℕ) → Wired g table → cap ≤ max_columns → Indexed heads room b.terms → Askable b g table rows room cap heads
+pub ask-ready : {p : Block} {b : State.Block} {table room heads : List ℕ} → Holds p b table room
+    → (g : Gate) (cap : ℕ) → Wired g table → cap ≤ max_columns → Indexed heads room b.terms → Askable b g table room cap heads
 ask-ready h g cap w l x = record {
   wired = w;
   few = h.rows_are.joins.few;

@@ -1,7 +1,7 @@
 // Whether the block under construction takes a gate: the qubit cap first, then the term cap.
 #![tactic(auto)]
 
-ghost use Rattle.std.specs.Prelude.{◌≡◌, cond, List, ℕ, ◌+◌, ◌≤◌, ◌<◌, length, get_or, leb};
+ghost use Rattle.std.specs.Prelude.{◌≡◌, cond, ◌+◌, ◌≤◌, ◌<◌, length, get_or, leb};
 ghost use Rattle.rules.specs.Limits.{max_columns};
 ghost use Rattle.rules.specs.Meaning.{op};
 ghost use Rattle.rules.specs.Scan as Scan;
@@ -39,38 +39,29 @@ fn last_wire(g: Gate) -> Wire
 }
 
 // Within the qubit cap once the wires have joined: c, and t too where there are two.
-fn fits(b: Block, c: Wire, t: Wire, two: bool, table: &[u32], cap: usize) -> bool
-    requires { (b.wires ≤ max_columns) × ((c.0 < length table.now) × (t.0 < length table.now)) }
-    ensures { result ≡ leb (b.wires + new (get_or table.now c.0 0) + cond two (new (get_or table.now t.0 0)) 0) cap }
+fn fits(b: &Block, c: Wire, t: Wire, two: bool, table: &[u32], cap: usize) -> bool
+    requires { (b.now.wires ≤ max_columns) × ((c.0 < length table.now) × (t.0 < length table.now)) }
+    ensures { result ≡ leb (b.now.wires + new (get_or table.now c.0 0) + cond two (new (get_or table.now t.0 0)) 0) cap }
 {
     let more = two & !join::joined(table, t);
     b.wires as usize + count_new(table, c) + more as usize <= cap
 }
 
 // The parity that a wire holds once it has joined.
-fn parity_of(b: Block, q: Wire, table: &[u32], rows: &[Parity]) -> Parity
-    requires { Held b q.0 table.now rows.now }
-    ensures { val result ≡ parity_at b.wires (rows_of rows.now) (get_or table.now q.0 0) }
+fn parity_of(b: &Block, q: Wire, table: &[u32]) -> Parity
+    requires { Held b.now q.0 table.now }
+    ensures { val result ≡ parity_at b.now.wires (rows_of b.now.rows) (get_or table.now q.0 0) }
 {
     match join::place_of(table, q) {
-        Some(at) => rows[at.0 as usize],
+        Some(at) => b.rows[at.0 as usize],
         None => Parity::single(b.wires),
     }
 }
 
-// Whether a gate can go on the block, whatever the names are that its rows bear. The table of terms is searched only for a rotation, and only if it
-// is full.
-pub fn takes(
-    b: Block,
-    g: Gate,
-    table: &[u32],
-    rows: &[Parity],
-    room: &[u64],
-    plan: Plan,
-    heads: &[u32],
-) -> bool
-    requires { Askable b g table.now rows.now room.now plan.qubits heads.now }
-    ensures { (names : List ℕ) → Rowed b table.now names rows.now → result ≡ Scan.takes (view plan) (op (gate_of g)) (block_at b names rows.now room.now) }
+// Whether a gate can go on the block. The table of terms is searched only for a rotation, and only if it is full.
+pub fn takes(b: &Block, g: Gate, table: &[u32], room: &[u64], plan: Plan, heads: &[u32]) -> bool
+    requires { Askable b.now g table.now room.now plan.qubits heads.now }
+    ensures { Rowed b.now table.now → result ≡ Scan.takes (view plan) (op (gate_of g)) (block_at b.now room.now) }
 {
     let code = g.code;
     let first = Wire(g.first);
@@ -84,6 +75,6 @@ pub fn takes(
     if two | ((code == CODE_X) | (b.terms < plan.terms)) {
         return true;
     }
-    let p = parity_of(b, first, table, rows);
+    let p = parity_of(b, first, table);
     terms::find(room, b.terms, p, heads).is_some()
 }

@@ -17,9 +17,8 @@ use Rattle.rules.specs.Plan.{Plan}
 use Rattle.rules.specs.Scan.{takes, Piece, copied, block, closed, cut, pieces_of}
 use Rattle.rules.proofs.Bits.{split}
 use Rattle.rules.proofs.Reading.{from-length}
-use Rattle.parity.specs.declared.Parity.{Parity}
+use Rattle.block.specs.declared.Block as State
 use Rattle.scan.specs.Scanning.{gates_in, run, rest, Stops}
-use Rattle.scan.specs.declared.Run.{Run}
 use Rattle.scan.proofs.Folding.{run_none, run-next, rest-next, rest-none, block_none}
 use Rattle.trace.specs.Clauses.{Cuts}
 
@@ -138,9 +137,9 @@ module _ (p : Plan) (l : List ℤ) (i : ℕ) (h : i < gates_in l) where
 
 -- ---- by where the fold of a run stops
 
-module _ (p : Plan) (l : List ℤ) (i : ℕ) (r : Run) (table names : List ℕ) (rows : List Parity) (room : List ℕ) (s : Stops p l i r table names rows room) (h : i < gates_in l) where
-  pub stop-lone : r.end ≡ i → Cuts p l i (i + 1)
+module _ (p : Plan) (l : List ℤ) (i : ℕ) (b : State.Block) (j : ℕ) (table room : List ℕ) (s : Stops p l i b j table room) (h : i < gates_in l) where
+  pub stop-lone : j ≡ i → Cuts p l i (i + 1)
   stop-lone e = lone-cuts p l i h (subst (λ (j : ℕ). takes p (op (gate_at l j)) (block_of (run l i j)) ≡ false) e (s.full (omega arith)))
 
-  pub stop-block : (r.end ≡ i → ⊥) → Cuts p l i r.end
-  stop-block f = block-cuts p l i h r.end (omega (arith, s.onward, f)) s.inside s.cuts s.full
+  pub stop-block : (j ≡ i → ⊥) → Cuts p l i j
+  stop-block f = block-cuts p l i h j (omega (arith, s.onward, f)) s.inside s.cuts s.full

@@ -30,8 +30,6 @@ use Rattle.saying.specs.Answer.{exact}
 use Rattle.saying.proofs.Checking.{exact-fits, right-exact}
 use Rattle.fitting.specs.Clauses.{Made}
 use Rattle.fitting.proofs.Made.{made-few}
-use Rattle.parity.specs.declared.Parity.{Parity}
-use Rattle.rows.proofs.Room.{row_count}
 use Rattle.scan.specs.Scanning.{gates_in, run, rest, Foldable, Scannable}
 use Rattle.scan.proofs.Folding.{rest-none}
 use Rattle.scan.proofs.Writing.{part}
@@ -206,12 +204,11 @@ module _ (h : Head) (l : List ℤ) (r : Right h l) (p : Plan) (capped : p.qubits
   pub wires-few : h.wires ≤ max_wires
   wires-few = (exact-fits h l r.exact).wires
 
-  pub foldable : (i : ℕ) (names : List ℕ) (rows : List Parity) (room : List ℕ) → i ≤ gates_in l → length names ≡ max_columns → length rows ≡ max_columns → length room ≡ term_width * term_entries list_gates
-      → Foldable p l i (take h.wires (replicate max_wires 0)) names rows room
-  foldable i names rows room k a b d = record {
+  pub foldable : (i : ℕ) (room : List ℕ) → i ≤ gates_in l → length room ≡ term_width * term_entries list_gates
+      → Foldable p l i (take h.wires (replicate max_wires 0)) room
+  foldable i room k d = record {
     checked = scan.checked;
     capped = capped;
     inside = k;
-     clear = record { clear = scan.clear.clear; terms = omega (arith, d, room-length room, r.few.few) };
-     wide = record { named = omega (arith, a); rowed = omega (arith, b, row_count rows) };
+    clear = record { clear = scan.clear.clear; terms = omega (arith, d, room-length room, r.few.few) };
   }

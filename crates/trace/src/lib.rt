@@ -20,11 +20,11 @@ ghost use Rattle.origin.specs.Clauses.{origin_size};
 ghost use Rattle.trace.specs.Answer as Paper;
 ghost use Rattle.trace.specs.Clauses.{trace_bytes, Right, Single, Cuts, Traces};
 
+use block::Block;
 use fitting::CnotMin;
 use origin::{ORIGIN_BYTES, Source};
-use parity::Parity;
 use plan::Plan;
-use rules::{GATE_TERMS, GATE_WIDTH, MAX_COLUMNS, MAX_WIRES, TERM_WIDTH};
+use rules::{GATE_TERMS, GATE_WIDTH, MAX_WIRES, TERM_WIDTH};
 use saying::{Program, Reason, Said};
 use scan::HEADS;
 use spelling::{Head, LIST_GATES};
@@ -38,22 +38,19 @@ fn piece_end(numbers: &[i32], at: usize, head: Head) -> usize
     ensures { Cuts (plan_of head.qubits head.terms) numbers.now at result }
 {
     let plan = plan::of_caps(head.qubits as usize, head.terms as usize);
+    let mut block = Block::new();
     let mut table = [0u32; MAX_WIRES];
-    let mut names = [0u32; MAX_COLUMNS];
-    let mut rows = [Parity::zero(); MAX_COLUMNS];
     let mut room = [0u64; TERM_WIDTH * (GATE_TERMS * LIST_GATES)];
     let mut heads = [0u32; HEADS];
-    let run = scan::fold_run(
+    let end = scan::fold_run(
         numbers,
         at,
+        &mut block,
         &mut table[..head.wires as usize],
-        &mut names,
-        &mut rows,
         &mut room,
         plan,
         &mut heads,
     );
-    let end = run.end;
     if end == at { at + 1 } else { end }
 }
 

@@ -12,7 +12,7 @@ absorb_x-requires c =
 
 pub returns-in-1 : goal.returns-in-1
 returns-in-1 c =
-    rw (op-x c.args.g c.in-1.is) (flip-absorbs _ _ _ _ _ _ _ _ _ _ _ c.requires.indexed _ c.absorb_x.ensures c.requires.sound.terms-are)
+    rw (op-x c.args.g c.in-1.is) (flip-absorbs _ _ _ _ _ _ _ c.requires.indexed _ c.absorb_x.ensures c.requires.sound.terms-are)
 
 pub absorb_cnot-requires : goal.absorb_cnot-requires
 unfolding entered
@@ -26,7 +26,7 @@ absorb_cnot-requires c =
 
 pub returns-in-8 : goal.returns-in-8
 returns-in-8 c =
-    rw (op-cnot c.args.g c.in-8.is) (cnot-absorbs _ _ _ _ _ _ _ _ _ _ _ c.requires.indexed _ _ c.absorb_cnot.ensures c.requires.sound.terms-are)
+    rw (op-cnot c.args.g c.in-8.is) (cnot-absorbs _ _ _ _ _ _ _ c.requires.indexed _ _ c.absorb_cnot.ensures c.requires.sound.terms-are)
 
 pub absorb_cz-requires-clause-enterable_two : goal.absorb_cz-requires-clause-enterable_two
 unfolding entered

@@ -11,8 +11,8 @@ returns c =
     let e = c.enter_two.ensures in
     let f = c.fold_cnot.ensures in
     record {
-      joined = cross-joined e.joined _ _ _ _ _ _ e.control e.target e.control-name e.target_name f;
+      joined = cross-joined e.joined _ _ _ _ _ e.control e.target e.control-name e.target_name f;
       terms = f.flips.terms ∙ e.terms;
       more = omega (arith, e.more, f.flips.wires);
-      behind = behind-same c.enter_two.new.self _ _ _ _ _ f.flips.wires (record { names-rest = e.behind.names-rest; rows-rest = f.rest ∙ e.behind.rows-rest });
+      behind = behind-same _ _ _ f.flips.wires f.flips.names f.rest e.behind;
     }

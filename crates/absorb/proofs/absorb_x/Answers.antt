@@ -1,5 +1,5 @@
 -- `absorb::absorb_x` meets its contract.
-use Rattle.std.proofs.Common.{◌∙◌, arith}
+use Rattle.std.proofs.Common.{◌∙◌, ap, drop, arith}
 use Rattle.rules.specs.Fold.{entered}
 use Rattle.absorb.proofs.Absorbing.{flip-joined}
 use Rattle.block.proofs.Parts.{behind-same}
@@ -9,5 +9,5 @@ pub returns : goal.returns
 unfolding entered
 returns c =
     let e = c.enter-at.ensures in
-    let f = c.fold_x.ensures in
-    record { joined = flip-joined e.joined _ _ _ e.at e.name f; terms = f.terms ∙ e.terms; more = omega arith; behind = behind-same _ _ _ _ _ _ f.wires e.behind }
+    let f = c.fold_x.ensures.flips in
+    record { joined = flip-joined e.joined _ _ _ e.at e.name f c.fold_x.ensures.rows; terms = f.terms ∙ e.terms; more = omega arith; behind = behind-same _ _ _ f.wires f.names (ap (drop c.enter-at.new.self.wires) c.fold_x.ensures.rows) e.behind }

@@ -8,23 +8,23 @@ use Rattle.plain_flush.proofs.flush.Goals.{Start}
 
 parts : (c : Start)
     → let s = c.args in let f = c.requires.flushable in
-    Enough s.run.now s.place.now s.block s.table.now s.names.now s.rows.now s.room.now s.steps.now f (first s.run.now s.place.now s.block s.table.now s.names.now s.rows.now s.room.now s.steps.now s.whole.now f c.requires.lent)
-parts c = enough _ _ _ _ _ _ _ _ _ c.requires.flushable c.requires.lent
+    Enough s.run.now s.place.now s.block.now s.table.now s.room.now s.steps.now f (first s.run.now s.place.now s.block.now s.table.now s.room.now s.steps.now s.whole.now f c.requires.lent)
+parts c = enough _ _ _ _ _ _ _ c.requires.flushable c.requires.lent
 
 pub overflow_mul-terms : goal.overflow_mul-terms
 overflow_mul-terms c = omega (arith, (parts (goal.at.overflow_mul-terms c).Start).terms-in)
 
-pub slice_bounds-settle-end-3 : goal.slice_bounds-settle-end-3
-slice_bounds-settle-end-3 c = (parts (goal.at.slice_bounds-settle-end-3 c).Start).terms-in
+pub slice_bounds-settle-end : goal.slice_bounds-settle-end
+slice_bounds-settle-end c = (parts (goal.at.slice_bounds-settle-end c).Start).terms-in
 
-pub slice_bounds-settle-end-4 : goal.slice_bounds-settle-end-4
-slice_bounds-settle-end-4 c = sym (length-take-le _ _ (parts (goal.at.slice_bounds-settle-end-4 c).Start).terms-in)
+pub slice_bounds-settle-end-2 : goal.slice_bounds-settle-end-2
+slice_bounds-settle-end-2 c = sym (length-take-le _ _ (parts (goal.at.slice_bounds-settle-end-2 c).Start).terms-in)
 
 pub settle-r-requires : goal.settle-r-requires
 settle-r-requires c =
     let f = c.requires.flushable in
     let n = f.holds.rows_are.joins.few in
-    record { fitted = fitted _ _ _ _ _ _ _ _ _ f c.requires.lent _ _ _ (omega (arith, n)) (omega (arith, n)) (omega (arith, n)); exact = f.exact }
+    record { fitted = fitted _ _ _ _ _ _ _ f c.requires.lent _ _ _ (omega (arith, n)) (omega (arith, n)) (omega (arith, n)); exact = f.exact }
 
 pub returns : goal.returns
 returns c = record { keeps = c.settle-r.ensures; leaves = c.leave.ensures }

@@ -23,6 +23,6 @@ pub returns : goal.returns
 unfolding terms_at
 returns c =
     let g = c.phase_walk in
-    let n : length (rows_of c.args.held.now) ≡ c.args.block.wires = omega (arith, row_count c.args.held.now, c.requires.walkable.held) in
-    let f : rows_of c.set_units.new.m ≡ units c.args.block.wires 0 = c.set_units.ensures ∙ ap (λ (m : ℕ). units m 0) n in
+    let n : length (rows_of c.args.held.now) ≡ c.args.block.now.wires = omega (arith, row_count c.args.held.now, c.requires.walkable.held) in
+    let f : rows_of c.set_units.new.m ≡ units c.args.block.now.wires 0 = c.set_units.ensures ∙ ap (λ (m : ℕ). units m 0) n in
     record { wrote = g.ensures.wrote; rows = g.ensures.rows ∙ ap (held _) f }

@@ -22,9 +22,9 @@ loop-i-init c =
     let h = c.requires.headed in (
       omega arith,
       record {
-        holds = start a.list.now a.table.now a.names.now a.rows.now a.room.now a.start c.empty-b.result c.empty-b.ensures f.clear f.wide;
+        holds = start a.list.now a.table.now a.room.now a.start c.clear.new.self c.clear.ensures f.clear (omega arith) (omega arith);
         cuts = rw (run_none a.list.now a.start) refl;
-        indexed = rw c.empty-b.ensures.terms (indexed-none _ _ h.some h.few);
+        indexed = rw c.clear.ensures.terms (indexed-none _ _ h.some h.few);
         narrow = narrow-none (view a.plan) a.list.now a.start;
       },
     )
@@ -34,7 +34,7 @@ takes-requires c =
     let l = c.loop-i in
     let i = l.invariant.1 in
     let f = c.requires.foldable in
-    let wires : Wired c.read-g.result l.table = wired c.args.list.now l.table l.names l.rows l.room _ l.i c.read-g.result f.checked c.loop-i-test.true c.read-g.ensures l.auto.table in
+    let wires : Wired c.read-g.result l.table = wired c.args.list.now l.table l.room _ l.i c.read-g.result f.checked c.loop-i-test.true c.read-g.ensures l.auto.table in
     ask-ready i.holds c.read-g.result c.args.plan.qubits wires f.capped i.indexed
 
 -- a gate that is not taken
@@ -43,7 +43,7 @@ returns-then-not-takes c =
     let l = c.loop-i in
     let a = c.args in
     let i = l.invariant.1 in
-    let answer : takes (view a.plan) (op (gate_at a.list.now l.i)) (folded a.list.now a.start l.i) ≡ c.takes.result = asked a.list.now l.table l.names l.rows l.room a.start l.i (view a.plan) c.read-g.result l.b c.takes.result c.read-g.ensures i.holds c.takes.ensures in
+    let answer : takes (view a.plan) (op (gate_at a.list.now l.i)) (folded a.list.now a.start l.i) ≡ c.takes.result = asked a.list.now l.table l.room a.start l.i (view a.plan) c.read-g.result l.block c.takes.result c.read-g.ensures i.holds c.takes.ensures in
     record { onward = l.invariant.0; inside = omega (arith, c.loop-i-test.true); holds = i.holds; narrow = i.narrow; cuts = i.cuts; full = λ h. answer ∙ c.if-not-takes.true }
 
 pub absorb-requires : goal.absorb-requires
@@ -53,11 +53,11 @@ absorb-requires c =
     let i = l.invariant.1 in
     let f = c.requires.foldable in
     let here = c.loop-i-test.true in
-    let wires : Wired c.read-g.result l.table = wired a.list.now l.table l.names l.rows l.room _ l.i c.read-g.result f.checked here c.read-g.ensures l.auto.table in
-    let answer : takes (view a.plan) (op (gate_at a.list.now l.i)) (folded a.list.now a.start l.i) ≡ c.takes.result = asked a.list.now l.table l.names l.rows l.room a.start l.i (view a.plan) c.read-g.result l.b c.takes.result c.read-g.ensures i.holds c.takes.ensures in
+    let wires : Wired c.read-g.result l.table = wired a.list.now l.table l.room _ l.i c.read-g.result f.checked here c.read-g.ensures l.auto.table in
+    let answer : takes (view a.plan) (op (gate_at a.list.now l.i)) (folded a.list.now a.start l.i) ≡ c.takes.result = asked a.list.now l.table l.room a.start l.i (view a.plan) c.read-g.result l.block c.takes.result c.read-g.ensures i.holds c.takes.ensures in
     absorb-ready i.holds c.read-g.result (view a.plan) wires f.capped
-    (spare a.list.now l.table l.names l.rows l.room a.start l.i l.b i.holds here (omega (arith, f.clear.terms, room-same l.room a.room.now l.auto.room)))
-    (spare_low a.list.now l.table l.names l.rows l.room a.start l.i l.b i.holds here f.checked.few)
+    (spare a.list.now l.table l.room a.start l.i l.block i.holds here (omega (arith, f.clear.terms, room-same l.room a.room.now l.auto.room)))
+    (spare_low a.list.now l.table l.room a.start l.i l.block i.holds here f.checked.few)
     i.indexed
     (rw (op-read _ c.read-g.result c.read-g.ensures) (answer ∙ c.if-not-takes.false))
 
@@ -68,10 +68,10 @@ loop-i-preserved c =
     let i = l.invariant.1 in
     let r = c.absorb in
     let here = c.loop-i-test.true in
-    let answer : takes (view a.plan) (op (gate_at a.list.now l.i)) (folded a.list.now a.start l.i) ≡ c.takes.result = asked a.list.now l.table l.names l.rows l.room a.start l.i (view a.plan) c.read-g.result l.b c.takes.result c.read-g.ensures i.holds c.takes.ensures in (
+    let answer : takes (view a.plan) (op (gate_at a.list.now l.i)) (folded a.list.now a.start l.i) ≡ c.takes.result = asked a.list.now l.table l.room a.start l.i (view a.plan) c.read-g.result l.block c.takes.result c.read-g.ensures i.holds c.takes.ensures in (
       omega (arith, l.invariant.0),
       record {
-        holds = next a.list.now l.table l.names l.rows l.room a.start l.i c.read-g.result l.b r.new.b _ _ _ _ l.invariant.0 c.read-g.ensures i.holds r.ensures.holds;
+        holds = next a.list.now l.table l.room a.start l.i c.read-g.result l.block r.new.b _ _ l.invariant.0 c.read-g.ensures i.holds r.ensures.holds;
         cuts = i.cuts ∙ cut_on (view a.plan) a.list.now a.start l.i l.invariant.0 here (answer ∙ c.if-not-takes.false);
         indexed = r.ensures.indexed;
         narrow = narrow_next (view a.plan) a.list.now a.start l.i l.invariant.0 (answer ∙ c.if-not-takes.false);

@@ -14,7 +14,7 @@ use Rattle.synth.proofs.emit_walk.Goals.{After-compact-entering}
 
 -- the entering terms stand in the room
 few : (c : After-compact-entering) → 3 * c.compact-entering.result ≤ length c.compact-entering.new.room
-few c = let r = c.compact-entering in omega (arith, entering-few c.args.block.terms r.result c.args.room.now r.new.room r.ensures, room-length r.new.room)
+few c = let r = c.compact-entering in omega (arith, entering-few c.args.block.now.terms r.result c.args.room.now r.new.room r.ensures, room-length r.new.room)
 
 pub overflow_mul-end : goal.overflow_mul-end
 overflow_mul-end c = omega (arith, few (goal.at.overflow_mul-end c).After-compact-entering)
@@ -31,7 +31,7 @@ returns c =
     let s = c.args in
     let g = c.gray_synth in
     let k = c.compact-entering in
-    let n : length (rows_of s.held.now) ≡ s.block.wires = omega (arith, row_count s.held.now, c.requires.walkable.held) in
-    let e = entering-walk s.block.terms k.result s.room.now k.new.room k.ensures s.block.wires in
-    let f : rows_of c.set_units.new.m ≡ units s.block.wires 0 = c.set_units.ensures ∙ ap (λ (m : ℕ). units m 0) n in
+    let n : length (rows_of s.held.now) ≡ s.block.now.wires = omega (arith, row_count s.held.now, c.requires.walkable.held) in
+    let e = entering-walk s.block.now.terms k.result s.room.now k.new.room k.ensures s.block.now.wires in
+    let f : rows_of c.set_units.new.m ≡ units s.block.now.wires 0 = c.set_units.ensures ∙ ap (λ (m : ℕ). units m 0) n in
     record { emits = rw (← e) g.ensures.emits; rows = λ w. g.ensures.rows w ∙ ap₂ held e f }

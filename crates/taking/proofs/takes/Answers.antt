@@ -40,24 +40,24 @@ none false true t e = absurd (true≢false e)
 none false false t e = (refl, (refl, e))
 
 pub returns-then-code : goal.returns-then-code
-returns-then-code c = λ names h. rw (op-other c.args.g c.if-code.true) (takes-other h _ (view c.args.plan))
+returns-then-code c = λ h. rw (op-other c.args.g c.if-code.true) (takes-other h _ (view c.args.plan))
 
 -- what the test of the qubit cap says, of the gate's last wire
-told : (c : After-fits) → leb (c.args.b.wires + new (get_or c.args.table.now c.args.g.first 0) + cond (leb 8 c.args.g.code) (new (get_or c.args.table.now (last_wire c.args.g) 0)) 0) c.args.plan.qubits ≡ c.fits.result
+told : (c : After-fits) → leb (c.args.b.now.wires + new (get_or c.args.table.now c.args.g.first 0) + cond (leb 8 c.args.g.code) (new (get_or c.args.table.now (last_wire c.args.g) 0)) 0) c.args.plan.qubits ≡ c.fits.result
 told c = sym (rw (← c.last_wire.ensures) c.fits.ensures)
 
 pub returns-then-not-fits : goal.returns-then-not-fits
 returns-then-not-fits c =
     let k = op-some c.args.g.code c.if-code.false in
     let w = told (goal.at.returns-then-not-fits c).After-fits ∙ c.if-not-fits.true in
-    λ names h. sym (takes-is h _ (view c.args.plan) c.args.g k.0 k.1 c.requires.wired.apart (record { few = c.requires.terms; same = refl }) ∙ rw w)
+    λ h. sym (takes-is h _ (view c.args.plan) c.args.g k.0 k.1 c.requires.wired.apart (record { few = c.requires.terms; same = refl }) ∙ rw w)
 
 pub returns-then-two-code : goal.returns-then-two-code
 returns-then-two-code c =
     let k = op-some c.args.g.code c.if-code.false in
     let w = told (goal.at.returns-then-two-code c).After-fits ∙ c.if-not-fits.false in
-    λ names h. sym (takes-is h _ (view c.args.plan) c.args.g k.0 k.1 c.requires.wired.apart (record { few = c.requires.terms; same = refl })
-    ∙ rw w (spare (leb 8 c.args.g.code) (eqb c.args.g.code 1) (has_term (parity_at c.args.b.wires (rows_of c.args.rows.now) (get_or c.args.table.now c.args.g.first 0)) (terms_at c.args.b c.args.room.now)) (ltb c.args.b.terms c.args.plan.terms) c.if-two-code.true))
+    λ h. sym (takes-is h _ (view c.args.plan) c.args.g k.0 k.1 c.requires.wired.apart (record { few = c.requires.terms; same = refl })
+    ∙ rw w (spare (leb 8 c.args.g.code) (eqb c.args.g.code 1) (has_term (parity_at c.args.b.now.wires (rows_of c.args.b.now.rows) (get_or c.args.table.now c.args.g.first 0)) (terms_at c.args.b.now c.args.room.now)) (ltb c.args.b.now.terms c.args.plan.terms) c.if-two-code.true))
 
 pub parity_of-p-requires : goal.parity_of-p-requires
 parity_of-p-requires c =
@@ -72,7 +72,7 @@ unfolding terms_at
 returns c =
     let k = op-some c.args.g.code c.if-code.false in
     let w = told (goal.at.returns c).After-fits ∙ c.if-not-fits.false in
-    let f = none (leb 8 c.args.g.code) (eqb c.args.g.code 1) (ltb c.args.b.terms c.args.plan.terms) c.if-two-code.false in
-    let m : c.is_some.result ≡ has_term (parity_at c.args.b.wires (rows_of c.args.rows.now) (get_or c.args.table.now c.args.g.first 0)) (terms_at c.args.b c.args.room.now) =
-    c.is_some.ensures ∙ searched c.args.b.terms _ _ _ _ c.requires.terms c.find.ensures c.parity_of-p.ensures in
-    λ names h. m ∙ sym (takes-is h _ (view c.args.plan) c.args.g k.0 k.1 c.requires.wired.apart (record { few = c.requires.terms; same = refl }) ∙ rw (w, f.0, f.1.0, f.1.1) (or-false _))
+    let f = none (leb 8 c.args.g.code) (eqb c.args.g.code 1) (ltb c.args.b.now.terms c.args.plan.terms) c.if-two-code.false in
+    let m : c.is_some.result ≡ has_term (parity_at c.args.b.now.wires (rows_of c.args.b.now.rows) (get_or c.args.table.now c.args.g.first 0)) (terms_at c.args.b.now c.args.room.now) =
+    c.is_some.ensures ∙ searched c.args.b.now.terms _ _ _ _ c.requires.terms c.find.ensures c.parity_of-p.ensures in
+    λ h. m ∙ sym (takes-is h _ (view c.args.plan) c.args.g k.0 k.1 c.requires.wired.apart (record { few = c.requires.terms; same = refl }) ∙ rw (w, f.0, f.1.0, f.1.1) (or-false _))

@@ -7,7 +7,6 @@ use lib.Seq.{length-take-le}
 use Rattle.rules.specs.Limits.{max_columns, max_wires, term_width, term_entries}
 use Rattle.rules.specs.Plan.{Plan}
 use Rattle.plan.specs.View.{view}
-use Rattle.parity.specs.declared.Parity.{Parity}
 use Rattle.cnot_min.proofs.Rooms.{clamped}
 use Rattle.spelling.specs.Sizes.{list_gates}
 use Rattle.spelling.specs.Heads.{head_of}
@@ -46,17 +45,11 @@ slice_bounds-fold_run-end-2 c = search rules
 pub slice_bounds-fold_run-end-3 : goal.slice_bounds-fold_run-end-3
 slice_bounds-fold_run-end-3 c = search rules
 
-pub slice_bounds-fold_run-end-4 : goal.slice_bounds-fold_run-end-4
-slice_bounds-fold_run-end-4 c = search rules
-
-pub slice_bounds-fold_run-end-5 : goal.slice_bounds-fold_run-end-5
-slice_bounds-fold_run-end-5 c = search rules
-
-pub fold_run-run-requires : goal.fold_run-run-requires
-fold_run-run-requires c =
+pub fold_run-end-requires : goal.fold_run-end-requires
+fold_run-end-requires c =
     let o = c.of_caps-plan in
     let capped : (view o.result).qubits ≤ max_columns = omega (arith, ap (λ (p : Plan). p.qubits) o.ensures, clamped c.args.head.qubits c.args.head.terms) in
-    record { foldable = foldable (head_of c.args.head) c.args.numbers.now c.requires.0 (view o.result) capped c.args.at _ _ _ (omega (arith, c.requires.1)) (length-replicate {A = ℕ} 128 0) (length-replicate {A = Parity} 128 c.zero-rows.result) (length-replicate {A = ℕ} (term_width * term_entries list_gates) 0); headed = record { some = rw (length-replicate {A = ℕ} 4096 0) (omega arith); few = rw (length-replicate {A = ℕ} 4096 0) (omega arith) } }
+    record { foldable = foldable (head_of c.args.head) c.args.numbers.now c.requires.0 (view o.result) capped c.args.at _ (omega (arith, c.requires.1)) (length-replicate {A = ℕ} (term_width * term_entries list_gates) 0); headed = record { some = rw (length-replicate {A = ℕ} 4096 0) (omega arith); few = rw (length-replicate {A = ℕ} 4096 0) (omega arith) } }
 
 pub overflow_add-result : goal.overflow_add-result
 overflow_add-result c = search rules
@@ -65,10 +58,10 @@ pub returns-then-end-at : goal.returns-then-end-at
 returns-then-end-at c =
     let l = c.args.numbers.now in
     subst (λ (p : Plan). Cuts p l c.args.at (c.args.at + 1)) c.of_caps-plan.ensures
-    (stop-lone _ l c.args.at c.fold_run-run.result _ _ _ _ c.fold_run-run.ensures c.requires.1 c.if-end-at.true)
+    (stop-lone _ l c.args.at _ _ _ _ c.fold_run-end.ensures c.requires.1 c.if-end-at.true)
 
 pub returns-else-end-at : goal.returns-else-end-at
 returns-else-end-at c =
     let l = c.args.numbers.now in
-    subst (λ (p : Plan). Cuts p l c.args.at c.fold_run-run.result.end) c.of_caps-plan.ensures
-    (stop-block _ l c.args.at c.fold_run-run.result _ _ _ _ c.fold_run-run.ensures c.requires.1 c.if-end-at.false)
+    subst (λ (p : Plan). Cuts p l c.args.at c.fold_run-end.result) c.of_caps-plan.ensures
+    (stop-block _ l c.args.at _ _ _ _ c.fold_run-end.ensures c.requires.1 c.if-end-at.false)

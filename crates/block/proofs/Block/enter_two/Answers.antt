@@ -21,5 +21,5 @@ returns c =
       target = y.at;
       control-name = y.kept _ x.at ∙ x.name;
       target_name = y.name;
-      behind = behind-on _ _ _ _ _ _ _ _ y.more x.behind y.behind;
+      behind = behind-on _ _ _ y.more x.behind y.behind;
     }

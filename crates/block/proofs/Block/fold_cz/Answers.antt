@@ -16,7 +16,7 @@ fold-requires-3-clause-terms_in_bounds c =
 
 pub returns : goal.returns
 returns c =
-    let rows = c.args.rows.now in
+    let rows = c.args.self.now.rows in
     let a : Bool = c.has-xs.result in
     let b : Bool = c.has-ys.result in
     rw (row_get rows c.args.c.0, row_get rows c.args.t.0, ← c.has-xs.ensures, ← c.has-ys.ensures)

@@ -21,15 +21,15 @@ returns c =
     let n : ℕ = c.args.self.now.wires in
     let e = c.enter.ensures in
     record {
-      joined = enter-new c.requires.enterable.rowed _ _ _ _ _ c.requires.q_value l e
-          (row_put c.args.rows.now n c.single.result ∙ ap (set (rows_of c.args.rows.now) n) c.single.ensures) (add-one _) refl;
+      joined = enter-new c.requires.enterable.rowed _ _ _ c.requires.q_value l e
+          (row_put c.args.self.now.rows n c.single.result ∙ ap (set (rows_of c.args.self.now.rows) n) c.single.ensures) (add-one _) refl;
       terms = refl;
       more = omega arith;
-      kept = λ i k. ap (λ (ns : List ℕ). get_or ns i 0) e.name ∙ get_or-set_other c.args.names.now n i c.args.q.0 0 (λ (z : i ≡ n). omega arith);
+      kept = λ i k. ap (λ (ns : List ℕ). get_or ns i 0) e.name ∙ get_or-set_other c.args.self.now.names n i c.args.q.0 0 (λ (z : i ≡ n). omega arith);
       at = omega arith;
-      name = ap (λ (ns : List ℕ). get_or ns n 0) e.name ∙ get_or-set_same c.args.names.now n c.args.q.0 0 (omega (arith, l, c.requires.enterable.rowed.joins.room));
+      name = ap (λ (ns : List ℕ). get_or ns n 0) e.name ∙ get_or-set_same c.args.self.now.names n c.args.q.0 0 (omega (arith, l, c.requires.enterable.rowed.joins.room));
       behind = record {
-        names-rest = ap (drop (n + 1)) e.name ∙ drop-set-lt (n + 1) c.args.names.now n c.args.q.0 (omega arith);
-        rows-rest = drop-set-lt (n + 1) c.args.rows.now n c.single.result (omega arith);
+        names-rest = ap (drop (n + 1)) e.name ∙ drop-set-lt (n + 1) c.args.self.now.names n c.args.q.0 (omega arith);
+        rows-rest = drop-set-lt (n + 1) c.args.self.now.rows n c.single.result (omega arith);
       };
     }
