@@ -1,9 +1,7 @@
 -- `flush::flush` meets its contract: written again in the parts that the block needs, settled, and the wires leave.
 use Rattle.std.proofs.Common.{sym, arith}
 use lib.Seq.{length-take-le}
-use Rattle.rules.specs.Pass.{writer_of}
 use Rattle.rules.proofs.Reading.{gates-length}
-use Rattle.plan.specs.View.{view}
 use Rattle.flush.proofs.Cutting.{Enough, enough, fitted}
 use Rattle.flush.proofs.flush.Goals as goal
 use Rattle.flush.proofs.flush.Goals.{Start}
@@ -30,7 +28,3 @@ pub attempt-p-requires : goal.attempt-p-requires
 attempt-p-requires c =
     let n = c.requires.flushable.holds.rows_are.joins.few in
     rw (← gates-length c.args.run.now) (fitted _ _ _ _ _ _ _ _ c.requires.flushable c.requires.lent _ _ _ (omega (arith, n)) (omega (arith, n)) (omega (arith, n)))
-
-pub returns : goal.returns
-returns c =
-    record { settles = c.settle-r.ensures (writer_of (view c.args.plan)) c.requires.flushable.exact c.attempt-p.ensures; leaves = c.leave.ensures }
