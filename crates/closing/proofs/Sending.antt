@@ -214,11 +214,3 @@ module _ (from to names : List ℕ) (out : List ℤ) (b : Budget) where
 
   pub closes-stuck : (rows : List ℕ) → eq_rows from to ≡ false → given false rows ≡ needed_rows (inverse from) to → Closes from to names out b out b false
   closes-stuck rows e f = record { emits = λ c q. absurd (none-ne-some c (sym (stuck-none from to rows e f) ∙ q)); lost = λ q. refl }
-
--- made, so there is a closing map, and room for more
-pub closes-ready : (from to names : List ℕ) (out : List ℤ) (b : Budget) (out' : List ℤ) (b' : Budget) → Closes from to names out b out' b' true → Ready out' b'
-closes-ready from to names out b out' b' k = go (closing from to) refl
-  where
-    go : (o : Option (List Step)) → closing from to ≡ o → Ready out' b'
-    go none e = absurd (true≢false (k.lost e))
-    go (some c) e = (k.emits c e).ready refl

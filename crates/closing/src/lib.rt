@@ -132,6 +132,7 @@ fn emit_steps(
 }
 
 // The map still needed, the wanted rows times the inverse of those held, in their place; false where they have none.
+// Stays: a bool, the answer of a test; the map stands in the room, so an Option would hold nothing.
 pub fn needed(held: &mut [Parity], wanted: &[Parity], right: &mut [Parity]) -> bool
     requires { Matrices held.old wanted.now right.old }
     ensures { given result (rows_of held.new) ≡ needed_rows (Paper.inverse (rows_of held.old)) (rows_of wanted.now) }

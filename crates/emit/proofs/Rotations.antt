@@ -2,14 +2,13 @@
 use mathlib.Core.Path.{◌≡◌, refl}
 use mathlib.Core.Bool.{Bool, true, false, ◌||◌, cond}
 use mathlib.Core.List.{List, [], ◌∷◌}
-use Prim.Native.Nat.{ℕ, zero, suc, ◌<◌, ◌^◌}
+use Prim.Native.Nat.{ℕ, zero, suc, ◌<◌}
 use native.Mathlib.Omega.{arith}
 use lib.IntN.{ℤ}
-use lib.Dec.{eqb, leb}
+use lib.Dec.{eqb}
 use Rattle.rules.specs.Gate.{gate1, code_t}
 use Rattle.rules.specs.Synth.{rotation}
 use Rattle.rules.specs.Budget.{Budget}
-use Rattle.rules.proofs.Bits.{split}
 use Rattle.emit.specs.Emitted.{Emits}
 use Rattle.emit.specs.Turns.{lead}
 use Rattle.emit.proofs.Appending.{emits_then, emits-stop}
@@ -39,16 +38,6 @@ rotation-is (suc (suc (suc (suc (suc (suc (suc (suc k)))))))) q p h = absurd (ma
 pub rotation-none : (q : ℕ) → rotation 0 q ≡ []
 unfolding rotation
 rotation-none q = refl
-
-pub lead-small : (k : ℕ) → lead k < 2 ^ 31
-lead-small k =
-    split (eqb k 1)
-    (λ e. rw e (omega arith))
-    (λ e. split (leb k 3)
-    (λ f. rw (e, f) (omega arith))
-    (λ f. split (leb k 5)
-    (λ g. rw (e, f, g) (omega arith))
-    (λ g. split (eqb k 6) (λ h. rw (e, f, g, h) (omega arith)) (λ h. rw (e, f, g, h) (omega arith)))))
 
 module _ (k q : ℕ) (p : 0 < k) (h : k < 8) {o o₁ : List ℤ} {b b₁ : Budget} where
   module _ (one : Emits (gate1 (lead k) q ∷ []) o b o₁ b₁ true) where

@@ -89,6 +89,7 @@ fn attempt(
 
 // A closed block: `run` is its gates, `place` its own place in the output, as long as the run. Its wires leave the join table. Of each work room only
 // the part that the block needs is lent on.
+// Stays: the rooms are parameters of their own, tried as fields of one lent struct: no proof is made of a function that lends parts of two of them on.
 pub fn flush(
     run: &[i32],
     place: &mut [i32],

@@ -1,5 +1,6 @@
 // A closed block of the plain engine: its resynthesis is written to its end in a room of its own; only then are the counts of the two whole writings
 // compared, and the cheaper one is copied to the block's place.
+// Stays: beside `flush` with functions of its own, since its writing is whole before it is compared; the test of the counts is shared.
 #![tactic(auto)]
 
 ghost use Rattle.std.specs.Prelude.{◌≡◌, false, ◌*◌, ◌≤◌, length};

@@ -25,17 +25,19 @@ pub fn row_times_matrix(row: Parity, m: &[Parity]) -> Parity
     sum
 }
 
-// The first row from `from` on that has a column.
+// The first row from `from` on that has a column: the search breaks out with it.
 pub fn find(m: &[Parity], column: u32, from: usize) -> Option<usize>
     requires { column < 128 }
     ensures { found_of result ≡ first_with column (length (rows_of m.now) - from) from (rows_of m.now) }
 {
-    for r in from..m.len() {
-        if m[r].has(column) {
-            return Some(r);
+    'rows: {
+        for r in from..m.len() {
+            if m[r].has(column) {
+                break 'rows Some(r);
+            }
         }
+        None
     }
-    None
 }
 
 // A parity is added to row r, or nothing is.

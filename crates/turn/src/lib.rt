@@ -5,11 +5,13 @@ ghost use Rattle.std.specs.Prelude.{◌≡◌, ◌+◌, ◌-◌, ◌%◌};
 ghost use Rattle.rules.specs.Meaning.{turn8};
 ghost use Rattle.rules.specs.Fold as Fold;
 
-// A signed turn of 32 bits, reduced to 0..7.
+// A signed turn of 32 bits, reduced to 0..7: the remainder by 8, corrected where it is negative.
+// Stays: by the remainder and not by `rem_euclid`, since document 01 names this form.
 pub fn reduce(t: i32) -> u8
     ensures { result ≡ turn8 t }
 {
-    t.rem_euclid(8) as u8
+    let m = t % 8;
+    if m < 0 { (m + 8) as u8 } else { m as u8 }
 }
 
 // A sum of turns. It wraps at 256, a multiple of 8.
@@ -20,10 +22,11 @@ pub fn add(a: u8, b: u8) -> u8
 }
 
 // The negated turn: zero minus the turn, which wraps too.
+// Stays: a subtraction from zero and not `wrapping_neg`, since document 01 names this form.
 pub fn negate(a: u8) -> u8
     ensures { result ≡ (256 - a) % 256 }
 {
-    a.wrapping_neg()
+    0u8.wrapping_sub(a)
 }
 
 // The turn as a wire's constant has it: behind an x a phase turns the other way.

@@ -1,9 +1,7 @@
 -- `flush::flush` meets its contract: written again in the parts that the block needs, settled, and the wires leave.
 use Rattle.std.proofs.Common.{sym, arith}
 use lib.Seq.{length-take-le}
-use Rattle.rules.specs.Pass.{writer_of}
 use Rattle.rules.proofs.Reading.{gates-length}
-use Rattle.plan.specs.View.{view}
 use Rattle.flush.proofs.Cutting.{Enough, enough, fitted}
 use Rattle.flush.proofs.flush.Goals as goal
 use Rattle.flush.proofs.flush.Goals.{Start}
