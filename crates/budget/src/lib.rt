@@ -1,4 +1,4 @@
-// The budget of a resynthesis: CNOT and CZ counted, gates counted, and the block's own number of each. It goes by value.
+// The budget of a resynthesis: CNOT and CZ counted, gates counted, and the block's own number of each. It goes by value; only `push` has it lent.
 #![tactic(auto)]
 
 ghost use Rattle.std.specs.Prelude.{◌≡◌};
@@ -47,16 +47,25 @@ impl Budget {
         (self.two <= self.maxtwo) & (self.all <= self.maxall)
     }
 
+    // One gate more in a lent budget; whether both counts are still within the ceilings.
+    pub fn push(&mut self, pair: bool) -> bool
+        requires { Low self.old }
+        ensures { Push pair (view self.old) (view self.new) result }
+    {
+        *self = self.counted(pair);
+        self.within()
+    }
+
     // One gate more, where both counts are still within the ceilings; else the counts with it, of which one is past its ceiling.
-    pub fn push(self, pair: bool) -> Result<Budget, Spent>
+    pub fn push_by(self, pair: bool) -> Result<Budget, Spent>
         requires { Low self }
         ensures { Push pair (view self) (counts_after result) (made result) }
     {
-        let counted = self.counted(pair);
-        if counted.within() {
-            Ok(counted)
+        let mut budget = self;
+        if budget.push(pair) {
+            Ok(budget)
         } else {
-            Err(Spent(counted))
+            Err(Spent(budget))
         }
     }
 }

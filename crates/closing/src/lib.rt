@@ -65,21 +65,23 @@ pub fn reduce(m: &mut [Parity], steps: &mut [u32], limit: usize) -> Option<usize
 {
     let n = m.len();
     let mut k = 0;
-    for column in 0..n {
-        k = diagonal(&mut *m, &mut *steps, k, limit, column)?;
-        // no branch on the bit: every turn stores, and only the count moves by it
-        let pivot = m[column];
-        for r in 0..n {
-            let bit = rows::other(m[r], column as u32, r);
-            rows::add_kept(&mut *m, r, pivot, bit);
-            note(&mut *steps, k, column, r);
-            k += bit as usize;
-            if k > limit {
-                return None;
+    'columns: {
+        for column in 0..n {
+            k = diagonal(&mut *m, &mut *steps, k, limit, column)?;
+            // no branch on the bit: every turn stores, and only the count moves by it
+            let pivot = m[column];
+            for r in 0..n {
+                let bit = rows::other(m[r], column as u32, r);
+                rows::add_kept(&mut *m, r, pivot, bit);
+                note(&mut *steps, k, column, r);
+                k += bit as usize;
+                if k > limit {
+                    break 'columns None;
+                }
             }
         }
+        Some(k)
     }
-    Some(k)
 }
 
 // How many gates the budget has left.

@@ -53,7 +53,7 @@ pub fn emit_gate(out: &mut [i32], b: Budget, g: Gate) -> Result<Budget, Spent>
     requires small { Small g }
     ensures { Emits (gate_of g ∷ []) out.old (view b) out.new (counts_after result) (made result) }
 {
-    let next = b.push(is_two(g.code))?;
+    let next = b.push_by(is_two(g.code))?;
     let at = b.all;
     gate::write(out, at, g);
     Ok(next)

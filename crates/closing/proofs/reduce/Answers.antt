@@ -85,7 +85,7 @@ loop-column-preserved c =
       left = filled (goal.at.loop-column-preserved c).In_ok-k ∙ ap (reduce_from _ _ _) (i.left ∙ clear-end _ _ _ _ e);
     }
 
-pub returns : goal.returns
-returns c =
+pub returns-after-loop-column : goal.returns-after-loop-column
+returns-after-loop-column c =
     let l = c.loop-column in
     record { answer = made l.m l.steps l.k (omega arith) _ _ _ _ l.invariant.left (omega (arith, row_count c.args.m.now)) l.invariant.few; beyond = l.invariant.beyond }

@@ -14,5 +14,5 @@ returns-then-has c =
     let m = c.args.m.now in
     sym (c.loop-r.invariant ∙ first-hit _ _ _ _ (omega (arith, row_count m)) (rw (row_get m c.loop-r.r, ← c.has.ensures) c.if-has.true))
 
-pub returns : goal.returns
-returns c = sym (c.loop-r.invariant ∙ first-end _ _ _ _ (omega (arith, row_count c.args.m.now)))
+pub returns-after-loop-r : goal.returns-after-loop-r
+returns-after-loop-r c = sym (c.loop-r.invariant ∙ first-end _ _ _ _ (omega (arith, row_count c.args.m.now)))
