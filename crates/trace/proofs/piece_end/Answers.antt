@@ -14,20 +14,7 @@ use Rattle.saying.proofs.Checking.{exact-fits}
 use Rattle.trace.specs.Clauses.{Cuts}
 use Rattle.trace.proofs.Cutting.{stop-lone, stop-block}
 use Rattle.trace.proofs.Tracing.{foldable}
-use borrow.Author.Rules.{rules}
 use Rattle.trace.proofs.piece_end.Goals as goal
-
-pub overflow_cast-head : goal.overflow_cast-head
-overflow_cast-head c = search rules
-
-pub overflow_cast-head-2 : goal.overflow_cast-head-2
-overflow_cast-head-2 c = search rules
-
-pub of_caps-plan-requires : goal.of_caps-plan-requires
-of_caps-plan-requires c = search rules
-
-pub overflow_cast-table : goal.overflow_cast-table
-overflow_cast-table c = search rules
 
 pub slice_bounds-table-end : goal.slice_bounds-table-end
 slice_bounds-table-end c =
@@ -39,26 +26,11 @@ slice_bounds-fold_run-end c =
     let few-wires : c.args.head.wires ≤ max_wires = (exact-fits (head_of c.args.head) c.args.numbers.now c.requires.0.exact).wires in
     sym (length-take-le _ _ (few-wires))
 
-pub slice_bounds-fold_run-end-2 : goal.slice_bounds-fold_run-end-2
-slice_bounds-fold_run-end-2 c = search rules
-
-pub slice_bounds-fold_run-end-3 : goal.slice_bounds-fold_run-end-3
-slice_bounds-fold_run-end-3 c = search rules
-
-pub slice_bounds-fold_run-end-4 : goal.slice_bounds-fold_run-end-4
-slice_bounds-fold_run-end-4 c = search rules
-
-pub slice_bounds-fold_run-end-5 : goal.slice_bounds-fold_run-end-5
-slice_bounds-fold_run-end-5 c = search rules
-
 pub fold_run-run-requires : goal.fold_run-run-requires
 fold_run-run-requires c =
     let o = c.of_caps-plan in
     let capped : (view o.result).qubits ≤ max_columns = omega (arith, ap (λ (p : Plan). p.qubits) o.ensures, clamped c.args.head.qubits c.args.head.terms) in
     record { foldable = foldable (head_of c.args.head) c.args.numbers.now c.requires.0 (view o.result) capped c.args.at _ _ _ (omega (arith, c.requires.1)) (length-replicate {A = ℕ} 128 0) (length-replicate {A = ℕ} 256 0) (length-replicate {A = ℕ} (term_width * term_entries list_gates) 0); headed = record { some = rw (length-replicate {A = ℕ} 4096 0) (omega arith); few = rw (length-replicate {A = ℕ} 4096 0) (omega arith) } }
-
-pub overflow_add-result : goal.overflow_add-result
-overflow_add-result c = search rules
 
 pub returns-then-end-at : goal.returns-then-end-at
 returns-then-end-at c =
