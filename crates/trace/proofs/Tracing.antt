@@ -1,6 +1,5 @@
 -- One piece, by what the pass makes of it; and piece by piece.
 use mathlib.Core.Path.{◌≡◌, refl, sym, ap, ◌∙◌}
-use mathlib.Core.Bool.{true, false}
 use mathlib.Core.List.{List, [], ◌∷◌, ◌++◌, map, append-nil}
 use Prim.Native.Nat.{ℕ, suc, ◌+◌, ◌-◌, ◌*◌, ◌/◌, ◌≤◌, ◌<◌}
 use native.Mathlib.Omega.{arith}
@@ -10,7 +9,7 @@ use lib.Seq.{length-take-le, get_or-take, get_or-drop}
 use Rattle.rules.specs.Limits.{width, max_wires, max_columns, term_width, step_width, term_entries, step_entries}
 use Rattle.rules.specs.Gate.{Gate}
 use Rattle.rules.specs.Numbers.{nat_of, field, gate_at, gates_from, gates_of, numbers_of}
-use Rattle.rules.specs.Refusal.{accepted, Fault, fault_at, verdict}
+use Rattle.rules.specs.Refusal.{accepted, Fault, fault_at}
 use Rattle.rules.specs.Plan.{Plan, plan_of}
 use Rattle.rules.specs.Scan.{Piece, copied, block, text_of, Writer, replaces, chosen, Result, finish, pass_by, cut, pieces_of}
 use Rattle.rules.specs.Lines.{line_of}

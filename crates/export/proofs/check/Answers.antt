@@ -1,5 +1,5 @@
 -- `export::check` meets its contract: refused as the list is, by its first gate that isn't spelled, or not.
-use mathlib.Core.Path.{sym, ap, ◌∙◌}
+use mathlib.Core.Path.{sym, ◌∙◌}
 use native.Mathlib.Omega.{arith}
 use Rattle.std.proofs.lemmas.Result.{err_from_is_err_and}
 use Rattle.saying.proofs.Checking.{exact-is}

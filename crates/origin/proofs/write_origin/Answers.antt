@@ -5,7 +5,6 @@ use borrow.Author.Rules.{rules}
 use lib.IntN.{pos}
 use lib.ListN.{get_or}
 use Rattle.rules.specs.Numbers.{nat_of}
-use Rattle.text.specs.Clauses.{Prints}
 use Rattle.qasm.specs.Clauses.{statement_size}
 use Rattle.origin.specs.Origins.{line_note}
 use Rattle.origin.specs.Clauses.{row_text, note_size}

@@ -17,10 +17,6 @@ use Rattle.origin.proofs.write_origins.Goals as goal
 pub loop-row-init : goal.loop-row-init
 loop-row-init c = rw (sub-zero (length c.args.numbers.now / width)) (begun-none _ _ _)
 
-pub write_origin-next-requires : goal.write_origin-next-requires
-write_origin-next-requires c =
-    let b = c.loop-row.invariant.prints in omega (arith, c.requires, c.loop-row.auto.out, b.short, b.writes.behind, c.loop-row-test.true, c.as_chunks.ensures.front_len)
-
 pub loop-row-preserved : goal.loop-row-preserved
 loop-row-preserved c =
     let p = c.loop-row in

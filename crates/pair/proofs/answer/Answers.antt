@@ -1,6 +1,5 @@
 -- `pair::answer` meets its contract: too long, the first list not read, or the second one's answer.
 use Rattle.std.proofs.Common.{sym, ap, arith, ◌∙◌}
-use Rattle.spelling.specs.Reading.{wrong, large}
 use Rattle.saying.specs.Reasons.{place_of}
 use Rattle.pair.proofs.Telling.{says-as, first-wrong}
 use Rattle.pair.proofs.Fronts.{list_stands, line_small, wrong-small, answer-long, answer-read}

@@ -2,12 +2,10 @@
 use mathlib.Core.Path.{◌≡◌}
 use mathlib.Core.List.{[], ◌∷◌}
 use native.Mathlib.Omega.{arith}
-use borrow.Author.Rules.{rules}
 use lib.ListN.{take}
 use Rattle.spelling.specs.Texts.{head_numbers, head_text}
 use Rattle.spelling.specs.Forms.{form_of}
 use Rattle.spelling.specs.Heads.{head_of}
-use Rattle.spelling.proofs.Forms.{per-gate-le}
 use Rattle.printing.proofs.Rows.{head-taken, fifth-few}
 use Rattle.printing.proofs.write_head.Goals as goal
 use Rattle.printing.proofs.write_head.Goals.{After-values-1}
@@ -18,28 +16,6 @@ values : (c : After-values-1) → take c.head_numbers-n.result (c.args.head.wire
 values c =
     let h = c.args.head in
     rw (c.head_numbers-n.ensures, c.per_gate-shown.ensures) (head-taken (form_of h.form) h.wires h.bits h.qubits h.terms)
-
-pub per_gate-shown-requires : goal.per_gate-shown-requires
-per_gate-shown-requires c = search rules
-
-pub overflow_cast-shown : goal.overflow_cast-shown
-overflow_cast-shown c = record { fits = omega (arith, c.per_gate-shown.ensures, per-gate-le (form_of c.args.head.form)) }
-
-pub head_numbers-n-requires : goal.head_numbers-n-requires
-head_numbers-n-requires c = search rules
-
-pub slice_bounds-write_section-end-2 : goal.slice_bounds-write_section-end-2
-slice_bounds-write_section-end-2 c = search rules
-
-pub slice_bounds-values-end : goal.slice_bounds-values-end
-slice_bounds-values-end c = omega (arith, c.head_numbers-n.ensures, fifth-few (form_of c.args.head.form))
-
-pub write_section-requires : goal.write_section-requires
-write_section-requires c =
-    rw (values (goal.at.write_section-requires c).After-values-1) (record { few = omega (arith, fifth-few (form_of c.args.head.form)); fits = omega (arith, fifth-few (form_of c.args.head.form), c.requires) })
-
-pub shape_of-out : goal.shape_of-out
-shape_of-out c = search rules
 
 pub returns : goal.returns
 unfolding head_text

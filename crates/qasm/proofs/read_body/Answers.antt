@@ -1,7 +1,6 @@
 -- `qasm::read_body` meets its contract: what is left of the text comes to what all of it does.
 use mathlib.Core.Path.{◌≡◌}
 use Prim.Native.Nat.{ℕ, suc, ◌+◌, ◌-◌, ◌^◌, ◌≤◌, ◌<◌}
-use native.Mathlib.Nat.{add-zero, sub-zero}
 use native.Mathlib.Omega.{arith}
 use borrow.Author.Rules.{rules}
 use lib.IntN.{pos}
@@ -12,7 +11,7 @@ use Rattle.gate.proofs.Tests.{stored}
 use Rattle.qasm.specs.declared.Wrong.TheVariants.{Line}
 use Rattle.qasm.proofs.Bodies.{statement_less}
 use Rattle.qasm.proofs.Fronts.{err_or}
-use Rattle.qasm.proofs.Keeping.{goes_first, goes-kept, goes-left, put-row, goes-stop, goes_end}
+use Rattle.qasm.proofs.Keeping.{goes-kept, goes-left, put-row, goes-stop, goes_end}
 use Rattle.qasm.proofs.read_body.Goals as goal
 use Rattle.qasm.proofs.read_body.Goals.{then-i-most, else-i-most}
 
@@ -26,9 +25,6 @@ returns-in_err-row c =
     let line = err_or c.read_statement.result (Line (c.args.line + p.i)) c.in_err-row.field-0.0 c.in_err-row.ensures.ok_part c.in_err-row.ensures.value in
     let no = rw c.in_err-row.ensures.ok_part at c.read_statement.ensures in
     rw (is.1, is.2, line) (goes-stop _ c.args.most _ _ p.i (n - (p.i + 1)) c.args.wires c.args.bits _ p.rest.now (rw f at p.invariant.goes) some no)
-
-pub loop-rest-init : goal.loop-rest-init
-loop-rest-init c = record { shorter = omega arith; goes = rw (sub-zero (length c.args.text.now), add-zero c.args.line) (goes_first _ c.args.most c.args.numbers.now) }
 
 pub loop-rest-smaller : goal.loop-rest-smaller
 loop-rest-smaller c =

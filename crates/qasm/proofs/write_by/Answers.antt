@@ -4,7 +4,7 @@ use Prim.Native.Nat.{ℕ, ◌+◌, ◌-◌}
 use native.Mathlib.Omega.{arith}
 use mathlib.Core.List.{List}
 use lib.ListN.{get_or, drop}
-use Rattle.text.proofs.Begun.{begun-none, begun_more, begun_all}
+use Rattle.text.proofs.Begun.{begun_more, begun_all}
 use Rattle.qasm.specs.Statement.{piece}
 use Rattle.qasm.specs.Clauses.{piece_size, template_size}
 use Rattle.qasm.proofs.Pieces.{spell-more, spell-none, size-more}
@@ -13,12 +13,6 @@ use Rattle.qasm.proofs.write_by.Goals as goal
 -- the size of what is written, and of what is left
 abbrev gone : List ℕ → ℕ → ℕ
 gone t i = template_size t - template_size (drop i t)
-
-pub loop-b-init : goal.loop-b-init
-loop-b-init c =
-    let t : List ℕ = c.args.template.now in
-    let none : template_size t - template_size t ≡ 0 = omega arith in
-    (omega arith, rw none (begun-none _ _ _))
 
 pub write_piece-next-requires : goal.write_piece-next-requires
 write_piece-next-requires c =

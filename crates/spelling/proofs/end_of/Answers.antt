@@ -2,11 +2,7 @@
 use Prim.Native.Nat.{◌+◌, ◌-◌}
 use native.Mathlib.Omega.{arith}
 use borrow.Author.Tests.{eq-eqb, ne_eqb}
-use borrow.Author.Rules.{rules}
 use Rattle.spelling.proofs.end_of.Goals as goal
-
-pub overflow_add-k : goal.overflow_add-k
-overflow_add-k c = search rules
 
 pub returns-then-k-n : goal.returns-then-k-n
 returns-then-k-n c =

@@ -2,7 +2,6 @@
 use mathlib.Core.Path.{◌≡◌, refl, ap, ◌∙◌}
 use Prim.Native.Nat.{◌+◌, ◌-◌, ◌*◌, ◌/◌, ◌≤◌}
 use native.Mathlib.Omega.{arith}
-use borrow.Author.Rules.{rules}
 use lib.ListN.{length}
 use Rattle.rules.specs.Limits.{width}
 use Rattle.rules.specs.Plan.{plan_of}
@@ -25,24 +24,6 @@ loop-at-init c = (omega arith, refl, begun-none _ _ _)
 
 pub piece_end-end-requires : goal.piece_end-end-requires
 piece_end-end-requires c = (record { few = c.requires.few; exact = c.requires.right }, c.loop-at-test.true)
-
-pub overflow_mul-at : goal.overflow_mul-at
-overflow_mul-at c = search rules
-
-pub overflow_mul-end : goal.overflow_mul-end
-overflow_mul-end c = search rules
-
-pub offset_bounds-numbers-at : goal.offset_bounds-numbers-at
-offset_bounds-numbers-at c = search rules
-
-pub slice_bounds-write_piece-count : goal.slice_bounds-write_piece-count
-slice_bounds-write_piece-count c = search rules
-
-pub slice_bounds-write_piece-start : goal.slice_bounds-write_piece-start
-slice_bounds-write_piece-start c = search rules
-
-pub slice_bounds-write_piece-end : goal.slice_bounds-write_piece-end
-slice_bounds-write_piece-end c = search rules
 
 pub write_piece-next-requires : goal.write_piece-next-requires
 write_piece-next-requires c =
