@@ -28,7 +28,3 @@ pub attempt-p-requires : goal.attempt-p-requires
 attempt-p-requires c =
     let n = c.requires.flushable.holds.rows_are.joins.few in
     rw (← gates-length c.args.run.now) (fitted _ _ _ _ _ _ c.requires.flushable c.requires.lent _ _ _ (omega (arith, n)) (omega (arith, n)) (omega (arith, n)))
-
-pub returns : goal.returns
-returns c =
-    record { settles = c.settle-r.ensures (writer_of (view c.args.plan)) c.requires.flushable.exact c.attempt-p.ensures; leaves = c.leave.ensures }
