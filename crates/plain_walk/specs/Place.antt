@@ -66,7 +66,7 @@ pub record Paid (names : List ℕ) (p t : ℕ) (d : Slot) (at : ℕ) (ts ts' : L
   pub wrote : Wrote (Synth.emit names (cn p t ∷ [])) whole k whole' k'
   pub rows : m' ≡ add_to p t m
   pub terms : Begins (cross_terms p t (take d.start ts)) d.start d.start ts ts'
-  pub slots : ss' ≡ set ss at (paid d t)
+  pub slots : ss' ≡ set ss at (paid d)
 
 -- what a walk over n columns that makes the steps ss is lent: the wires' names, room for a node more than there are columns, a row for each wire, and room for its gates
 pub record Lent (n : ℕ) (names : List ℕ) (nodes : List Slot) (held : List Parity) (ss : List Step) (whole : List ℤ) (k : ℕ) : Type 0 where

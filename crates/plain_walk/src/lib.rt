@@ -108,7 +108,7 @@ pub fn pay(
     let next = writing::write_cnot(whole, k, control, target);
     rows::add(held, p as usize, t as usize);
     terms::flip_by(room, d.start, Parity::single(p), t);
-    nodes[at] = d.paid(t);
+    nodes[at] = d.paid();
     next
 }
 

@@ -20,8 +20,9 @@ use Rattle.rules.proofs.Walking.{cross_all, tally-rest, best-ok}
 use Rattle.parity.specs.View.{val}
 use Rattle.terms.specs.Terms.{Begins}
 use Rattle.walk.specs.declared.Slot.{Slot}
-use Rattle.walk.specs.declared.Aim.TheVariants.{Owes}
-use Rattle.walk.specs.Stack.{no_slot, aim_to, aim_of, view, target_of, node_of, stack_of, Aimed, Laid, takes, leaves, paid, Branched}
+use Rattle.walk.specs.declared.Aim.{Aim}
+use Rattle.walk.specs.declared.Aim.TheVariants.{On, Owes}
+use Rattle.walk.specs.Stack.{no_slot, aim_to, aim_of, view, target_of, node_of, stack_of, Aimed, Laid, takes, leaves, settled, paid, Branched}
 use Rattle.walk.proofs.Stacks.{slice-rest, stack-length, stack_top, stack_at, sound-at, Top, sound-top, stack-slots, sound-slots, stack-terms, stack-cross}
 use Rattle.walk.proofs.Aims.{NoneOwed, aim-settled, target-owed, takes-aim, takes-aimed, leaves-aimed, settled-to, visit-none, visit-pay, visit-leaf, visit-split}
 use Rattle.walk.proofs.Splitting.{split-fits, split-front, split-zeros, split-ones}
@@ -221,31 +222,41 @@ module _ (n : ℕ) (sl : List Slot) (ts : List Term) (depth end at : ℕ) (k : d
           (ap (λ (x : Walk.Aim). visit n (node (val d.cands) x top_set) below) (ap view o)
           ∙ visit-pay n below (val d.cands) p t top_set some)
 
-      module _ (ss : List Slot) (us : List Term) (f : ss ≡ set sl at (paid d t)) (wide : n + 1 ≤ length sl)
+      -- the node as it returns
+      abbrev after : Slot
+      after = record { cands = d.cands; aim = On t; start = d.start }
+
+      paid-is : paid d ≡ after
+      paid-is = ap (λ (x : Aim). record { cands = d.cands; aim = settled x; start = d.start }) o
+
+      module _ (ss : List Slot) (us : List Term) (g : ss ≡ set sl at (paid d)) (wide : n + 1 ≤ length sl)
           (b : Begins (cross_terms p t (take d.start ts)) d.start d.start ts us) where
-        got : paid d t ≡ get_or ss at no_slot
-        got = sym (ap (λ (x : List Slot). get_or x at no_slot) f ∙ get_or-set_same sl at (paid d t) no_slot (omega (arith, top-deep)))
+        f : ss ≡ set sl at after
+        f = g ∙ ap (set sl at) paid-is
+
+        got : after ≡ get_or ss at no_slot
+        got = sym (ap (λ (x : List Slot). get_or x at no_slot) f ∙ get_or-set_same sl at after no_slot (omega (arith, top-deep)))
 
         pub pay-stack : Stacked (stack_of ss depth us end) returned
         unfolding cross_all cross_stack
         pay-stack =
             let s-below : stack_of ss at us d.start ≡ cross_nodes p t below =
-            ap (λ (x : List Slot). stack_of x at us d.start) f ∙ stack-slots sl at (paid d t) at us d.start (omega arith)
+            ap (λ (x : List Slot). stack_of x at us d.start) f ∙ stack-slots sl at after at us d.start (omega arith)
             ∙ stack-cross n (cn p t ∷ []) sl at ts us d.start rest-laid b.front in
             stacked-is
-            (stack_at ss depth us end at k (paid d t) got
+            (stack_at ss depth us end at k after got
             ∙ ap₂ (λ (x : Node) (y : List Node). x ∷ y) (ap (node (val d.cands) (on t)) (slice-rest d.start end ts us b.rest)) s-below)
 
         pub pay-laid : Laid n ss depth end
         pay-laid =
-            sound-at n ss depth end at k (paid d t) got top.start
+            sound-at n ss depth end at k after got top.start
             (record {
               target = λ u e. top.aimed.target u (target-owed d.aim p t o ∙ e);
               owed = λ x y e. cc;
               apart = λ u e. top.aimed.apart u (target-owed d.aim p t o ∙ e);
               differ = λ x y e. cc;
             })
-            (subst (λ (x : List Slot). Laid n x at d.start) (sym f) (sound-slots n sl at (paid d t) at d.start (omega arith) rest-laid))
+            (subst (λ (x : List Slot). Laid n x at d.start) (sym f) (sound-slots n sl at after at d.start (omega arith) rest-laid))
 
     -- rule 4: the side with the column stays in the node's place, the side without runs first
     module _ (o : NoneOwed d.aim) (z : val d.cands ≢ 0) (wide : n + 1 ≤ length sl) (ss : List Slot) (us : List Term) (br : Branched d at end ts us sl ss) where

@@ -76,7 +76,7 @@ pub record Paid (names : List ℕ) (p t : ℕ) (d : Slot) (at : ℕ) (ts ts' : L
   pub emits : Emits (Synth.emit names (cn p t ∷ [])) out b out' b' within
   pub rows : m' ≡ add_to p t m
   pub terms : Begins (cross_terms p t (take d.start ts)) d.start d.start ts ts'
-  pub slots : ss' ≡ set ss at (paid d t)
+  pub slots : ss' ≡ set ss at (paid d)
 
 -- the one term from `start` to `end` is run down to the column that is chosen: a CNOT from each of the mask, from the highest down, and the rotation.
 -- The terms before it take note.

@@ -72,9 +72,15 @@ takes s rest c = record { cands = rest; aim = aim_with (target_of s.aim) c; star
 abbrev pub leaves : Slot → Parity → ℕ → Slot
 leaves s rest ones = record { cands = rest; aim = s.aim; start = s.start + ones }
 
--- what is owed to the target t is paid
-abbrev pub paid : Slot → ℕ → Slot
-paid s t = record { cands = s.cands; aim = On t; start = s.start }
+-- nothing is owed any more, and the target stays
+abbrev pub settled : Aim → Aim
+settled Free = Free
+settled (On t) = On t
+settled (Owes p t) = On t
+
+-- what is owed is paid
+abbrev pub paid : Slot → Slot
+paid s = record { cands = s.cands; aim = settled s.aim; start = s.start }
 
 -- only these candidates are left
 abbrev pub narrowed : Slot → Parity → Slot

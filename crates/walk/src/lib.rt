@@ -63,14 +63,16 @@ impl Slot {
         }
     }
 
-    // What is owed to the target is paid.
-    pub fn paid(self, target: u32) -> Slot
-        ensures { result ≡ Stack.paid self target }
+    // What is owed is paid; the target stays.
+    pub fn paid(self) -> Slot
+        ensures { result ≡ Stack.paid self }
     {
-        Slot {
-            aim: Aim::On(target),
-            ..self
-        }
+        let aim = match self.aim {
+            Aim::Free => Aim::Free,
+            Aim::On(target) => Aim::On(target),
+            Aim::Owes { target, .. } => Aim::On(target),
+        };
+        Slot { aim, ..self }
     }
 
     // Only these candidates are left.
@@ -250,7 +252,7 @@ pub fn pay(
     let pushed = emit::emit_cnot(out, b, control, target);
     rows::add(held, p as usize, t as usize);
     *f = defer(room, *f, d.start, Parity::single(p), t);
-    nodes[at] = d.paid(t);
+    nodes[at] = d.paid();
     pushed
 }
 
