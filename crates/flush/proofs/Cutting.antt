@@ -1,5 +1,5 @@
 -- The parts of the rooms that a block needs hold the same block; and what is known of a run's block.
-use mathlib.Core.Path.{◌≡◌, refl, sym, ap, ap₂, ◌∙◌, subst}
+use mathlib.Core.Path.{◌≡◌, refl, sym, ap, ◌∙◌, subst}
 use mathlib.Core.Bool.{true, false≢true}
 use mathlib.Core.List.{List, [], ◌∷◌, map}
 use mathlib.Core.Option.{Option, none, some}
@@ -102,13 +102,16 @@ made-fits bl before after b p h w = go (synth bl) refl
 
 -- ---- the parts that are lent
 
-module _ (run place : List ℤ) (b : State.Block) (table room steps : List ℕ) (f : Flushable run b table room)
-    (l : Lent run place steps) where
-  -- each room whose length is the caller's has the part that the block needs
+module _ (run place : List ℤ) (b : State.Block) (table room : List ℕ) (nodes : List Slot) (held right : List Parity) (steps : List ℕ)
+    (f : Flushable run b table room) (l : Lent run place nodes held right steps) where
+  -- each room has the part that the block needs
   pub record Enough : Type 0 where
     pub names_in : b.wires ≤ length b.names
     pub rows_in : b.wires ≤ length b.rows
     pub terms-in : term_width * b.terms ≤ length room
+    pub nodes-in : b.wires + 1 ≤ length nodes
+    pub held_in : b.wires ≤ length held
+    pub right-in : b.wires ≤ length right
     pub steps-in : step_width * (length (gates_of run) + 1) ≤ length steps
 
   pub enough : Enough
@@ -118,13 +121,15 @@ module _ (run place : List ℤ) (b : State.Block) (table room steps : List ℕ) 
         names_in = omega (arith, j.few, j.room);
         rows_in = omega (arith, j.few, f.holds.rows_are.wide, row_count b.rows);
         terms-in = omega (arith, f.holds.terms-are.few, room-length room);
+        nodes-in = omega (arith, j.few, l.work.deep);
+        held_in = omega (arith, j.few, l.work.held);
+        right-in = omega (arith, j.few, l.work.right);
         steps-in = l.long;
       }
 
-  pub fitted : (nodes : List Slot) (held right : List Parity) → b.wires + 1 ≤ length nodes → b.wires ≤ length held → b.wires ≤ length right
-      → Fitted run place b (take (term_width * b.terms) room) (take (b.wires + 1) nodes)
+  pub fitted : Fitted run place b (take (term_width * b.terms) room) (take (b.wires + 1) nodes)
       (take b.wires held) (take b.wires right) (take (step_width * (length (gates_of run) + 1)) steps)
-  fitted nodes held right ln lh lr =
+  fitted =
       let n : ℕ = b.wires in
       let j = f.holds.rows_are.joins in
       let same : block_at b room ≡ block_of (gates_of run) = holds_same f.holds in
@@ -140,12 +145,12 @@ module _ (run place : List ℤ) (b : State.Block) (table room steps : List ℕ) 
             named = size;
             wired = λ i h. let k : i < n = omega (arith, size) in rw (get_or-take n b.names i 0 k) (omega (arith, j.inside i k, f.wires));
             terms = omega (arith, ap length (room_take b.terms room t) ∙ length-take-le b.terms (terms_of room) t);
-            deep = omega (arith, length-take-le (n + 1) nodes ln);
-            held = length-take-le n held lh;
+            deep = omega (arith, length-take-le (n + 1) nodes enough.nodes-in);
+            held = length-take-le n held enough.held_in;
           };
           wide = length-take-le n b.rows enough.rows_in;
           below = λ i h. rw (row-take n b.rows, get_or-take n (rows_of b.rows) i 0 h) (block-below run b room same i h);
-          right = length-take-le n right lr;
+          right = length-take-le n right enough.right-in;
           long = omega (arith, length-take-le (step_width * (length (gates_of run) + 1)) steps enough.steps-in);
         };
       }

@@ -1,6 +1,6 @@
 -- A closed block's choice: its new writing where that is cheaper, else its own gates. What it is rewritten to is a parameter.
 use Rattle.std.specs.Prelude.{◌≡◌, Bool, true, false, ◌&&◌, ◌||◌, List, ℕ, ◌+◌, ◌*◌, ◌≤◌, ℤ, Result, length, take, eqb, leb, ltb}
-use Rattle.rules.specs.Limits.{width, step_width, max_gates, max_wires}
+use Rattle.rules.specs.Limits.{width, step_width, max_gates, max_wires, max_columns}
 use Rattle.rules.specs.Gate.{Gate}
 use Rattle.rules.specs.Numbers.{gates_of, numbers_of}
 use Rattle.rules.specs.Counts.{twos, cheaper}
@@ -62,10 +62,21 @@ pub record Flushable (run : List ℤ) (b : State.Block) (table room : List ℕ) 
   pub holds : Block.Holds (block_of (gates_of run)) b table room
   pub wires : length table ≤ max_wires
 
--- the place is as long as the run, and there are steps for the run's gates
-pub record Lent (run place : List ℤ) (steps : List ℕ) : Type 0 where
+-- nodes of a stack that is enough for every block
+abbrev pub stack_length : ℕ
+stack_length = max_columns + 1
+
+-- rooms for the engine, whatever the block: a stack and two matrices
+pub record Workroom (nodes : List Slot) (from spare : List Parity) : Type 0 where
+  pub deep : stack_length ≤ length nodes
+  pub held : max_columns ≤ length from
+  pub right : max_columns ≤ length spare
+
+-- the place is as long as the run; rooms for the engine, and steps for the run's gates
+pub record Lent (run place : List ℤ) (nodes : List Slot) (from spare : List Parity) (steps : List ℕ) : Type 0 where
   pub many : length (gates_of run) ≤ max_gates
   pub fits : length place ≡ length run
+  pub work : Workroom nodes from spare
   pub long : step_width * (length (gates_of run) + 1) ≤ length steps
 
 -- ---- what is promised

@@ -96,14 +96,14 @@ pub fn flush(
     block: &Block,
     table: &mut [u32],
     room: &mut [u64],
-    nodes: &mut [Slot; STACK],
-    held: &mut [Parity; MAX_COLUMNS],
-    right: &mut [Parity; MAX_COLUMNS],
+    nodes: &mut [Slot],
+    held: &mut [Parity],
+    right: &mut [Parity],
     steps: &mut [u32],
     plan: Plan,
 ) -> Flushed
     requires flushable { Flushable run.now block.now table.old room.old }
-    requires lent { Lent run.now place.old steps.old }
+    requires lent { Lent run.now place.old nodes.old held.old right.old steps.old }
     ensures { Flushes (writer_of (view plan)) run.now place.new block.now table.new result }
 {
     let wires = block.wires;

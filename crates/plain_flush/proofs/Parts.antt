@@ -20,23 +20,22 @@ use Rattle.flush.specs.Choice.{Flushable}
 use Rattle.flush.proofs.Cutting as Cutting
 use Rattle.plain_flush.specs.Keeping.{Fitted, Lent}
 
-module _ (run place : List ℤ) (b : State.Block) (table room steps : List ℕ) (whole : List ℤ)
-    (f : Flushable run b table room) (l : Lent run place b steps whole) where
-  pub first : First.Lent run place steps
-  first = record { many = omega (arith, l.many); fits = l.fits; long = omega (arith, l.many, l.noted) }
+module _ (run place : List ℤ) (b : State.Block) (table room : List ℕ) (nodes : List Slot) (held right : List Parity) (steps : List ℕ) (whole : List ℤ)
+    (f : Flushable run b table room) (l : Lent run place b nodes held right steps whole) where
+  pub first : First.Lent run place nodes held right steps
+  first = record { many = omega (arith, l.many); fits = l.fits; work = l.work; long = omega (arith, l.many, l.noted) }
 
   -- each room has the part that the block needs
-  pub enough : Cutting.Enough run place b table room steps f first
-  enough = Cutting.enough run place b table room steps f first
+  pub enough : Cutting.Enough run place b table room nodes held right steps f first
+  enough = Cutting.enough run place b table room nodes held right steps f first
 
   square : b.wires * b.wires ≤ plain_columns * plain_columns
   square = let e : b.wires * b.wires ≤ plain_columns * b.wires = mul-le-mul_right b.wires l.narrow in omega (arith, l.narrow)
 
-  pub fitted : (nodes : List Slot) (held right : List Parity) → b.wires + 1 ≤ length nodes → b.wires ≤ length held → b.wires ≤ length right
-      → Fitted run place b (take (term_width * b.terms) room) (take (b.wires + 1) nodes)
+  pub fitted : Fitted run place b (take (term_width * b.terms) room) (take (b.wires + 1) nodes)
       (take b.wires held) (take b.wires right) steps whole
-  fitted nodes held right ln lh lr =
-      let p = Cutting.fitted run place b table room steps f first nodes held right ln lh lr in
+  fitted =
+      let p = Cutting.fitted run place b table room nodes held right steps f first in
       let few : length (terms_at b (take (term_width * b.terms) room)) ≡ length (block_of (gates_of run)).terms = ap (λ (x : Block). length x.terms) p.same in
       record {
         fits = l.fits;

@@ -10,7 +10,7 @@ use Rattle.block.specs.declared.Block as State
 use Rattle.block.specs.View.{block_at}
 use Rattle.parity.specs.declared.Parity.{Parity}
 use Rattle.walk.specs.declared.Slot.{Slot}
-use Rattle.flush.specs.Choice.{Settles}
+use Rattle.flush.specs.Choice.{Settles, Workroom}
 use Rattle.plain_synth.specs.Whole as Whole
 use Rattle.plain_flush.specs.declared.Kept.{Kept}
 
@@ -29,11 +29,12 @@ pub record Fitted (run place : List ℤ) (b : State.Block) (room : List ℕ) (no
 abbrev pub additions : ℕ
 additions = 2 * (plain_columns * plain_columns + 1)
 
--- a run of the plain engine's length, whose block has few wires; the place is as long as the run; steps and a room that are enough, whatever the block
-pub record Lent (run place : List ℤ) (b : State.Block) (steps : List ℕ) (whole : List ℤ) : Type 0 where
+-- a run of the plain engine's length, whose block has few wires; the place is as long as the run; rooms for the engine, whatever the block
+pub record Lent (run place : List ℤ) (b : State.Block) (nodes : List Slot) (from spare : List Parity) (steps : List ℕ) (whole : List ℤ) : Type 0 where
   pub many : length (gates_of run) ≤ plain_gates
   pub narrow : b.wires ≤ plain_columns
   pub fits : length place ≡ length run
+  pub work : Workroom nodes from spare
   pub noted : additions ≤ length steps
   pub long : width * whole_gates ≤ length whole
 

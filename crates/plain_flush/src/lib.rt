@@ -16,10 +16,10 @@ ghost use Rattle.plain_flush.specs.Keeping.{Keeps, Fitted, Lent, Flushes};
 
 use block::Block;
 use budget::Budget;
-use flush::{Flushed, STACK};
+use flush::Flushed;
 use parity::Parity;
 use plan::Plan;
-use rules::{GATE_WIDTH, MAX_COLUMNS, TERM_WIDTH};
+use rules::{GATE_WIDTH, TERM_WIDTH};
 use walk::Slot;
 
 // What the place then has, and how many CNOT and CZ the new writing has, kept or not.
@@ -104,15 +104,15 @@ pub fn flush(
     block: &Block,
     table: &mut [u32],
     room: &mut [u64],
-    nodes: &mut [Slot; STACK],
-    held: &mut [Parity; MAX_COLUMNS],
-    right: &mut [Parity; MAX_COLUMNS],
+    nodes: &mut [Slot],
+    held: &mut [Parity],
+    right: &mut [Parity],
     steps: &mut [u32],
     whole: &mut [i32],
     plan: Plan,
 ) -> Kept
     requires flushable { Flushable run.now block.now table.old room.old }
-    requires lent { Lent run.now place.old block.now steps.old whole.old }
+    requires lent { Lent run.now place.old block.now nodes.old held.old right.old steps.old whole.old }
     ensures { Flushes (writer_of (view plan)) run.now place.new block.now table.new result }
 {
     let wires = block.wires;

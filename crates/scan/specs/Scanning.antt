@@ -48,6 +48,12 @@ pub record Suits (gates wires needs : ℕ) (l : List ℤ) (n : ℕ) (whole : Lis
   pub narrow : n ≤ wires
   pub long : needs ≤ length whole
 
+-- what an engine is lent for a run: the place is as long as the run, and there are steps for the run's gates
+pub record Placed (run place : List ℤ) (steps : List ℕ) : Type 0 where
+  pub many : length (gates_of run) ≤ max_gates
+  pub fits : length place ≡ length run
+  pub long : step_width * (length (gates_of run) + 1) ≤ length steps
+
 -- heads of an index at most
 abbrev pub most_heads : ℕ
 most_heads = 4096

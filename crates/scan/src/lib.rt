@@ -6,8 +6,8 @@ ghost use Rattle.rules.specs.Limits.{max_gates, max_columns};
 ghost use Rattle.rules.specs.Numbers.{gate_at, gates_of, numbers};
 ghost use Rattle.rules.specs.Pass.{writer_of};
 ghost use Rattle.plan.specs.View.{view};
-ghost use Rattle.flush.specs.Choice.{Flushable, Lent, Flushes};
-ghost use Rattle.scan.specs.Scanning.{made, most_heads, Spared, Suits, Headed, Foldable, Stops, Closable, Closes, Copyable, Low, Ready, Advances, Scannable, Scans};
+ghost use Rattle.flush.specs.Choice.{Flushable, Flushes};
+ghost use Rattle.scan.specs.Scanning.{made, most_heads, Spared, Suits, Placed, Headed, Foldable, Stops, Closable, Closes, Copyable, Low, Ready, Advances, Scannable, Scans};
 
 use block::Block;
 use flush::{Flushed, STACK};
@@ -89,7 +89,7 @@ pub trait Engine {
         plan: Plan,
     ) -> Flushed
         requires flushable { Flushable run.now block.now table.old room.old }
-        requires lent { Lent run.now place.old steps.old }
+        requires lent { Placed run.now place.old steps.old }
         requires few { (length (gates_of run.now) ≤ most_gates) × (block.now.wires ≤ most_wires) }
         requires long { needs ≤ length whole.old }
         ensures { Flushes (writer_of (view plan)) run.now place.new block.now table.new result };

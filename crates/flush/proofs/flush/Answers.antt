@@ -6,8 +6,8 @@ use Rattle.flush.proofs.Cutting.{Enough, enough, fitted}
 use Rattle.flush.proofs.flush.Goals as goal
 use Rattle.flush.proofs.flush.Goals.{Start}
 
-parts : (c : Start) → let s = c.args in Enough s.run.now s.place.now s.block.now s.table.now s.room.now s.steps.now c.requires.flushable c.requires.lent
-parts c = enough _ _ _ _ _ _ c.requires.flushable c.requires.lent
+parts : (c : Start) → let s = c.args in Enough s.run.now s.place.now s.block.now s.table.now s.room.now s.nodes.now s.held.now s.right.now s.steps.now c.requires.flushable c.requires.lent
+parts c = enough _ _ _ _ _ _ _ _ _ c.requires.flushable c.requires.lent
 
 pub overflow_mul-terms : goal.overflow_mul-terms
 overflow_mul-terms c = omega (arith, (parts (goal.at.overflow_mul-terms c).Start).terms-in)
@@ -18,6 +18,24 @@ slice_bounds-attempt-end c = (parts (goal.at.slice_bounds-attempt-end c).Start).
 pub slice_bounds-attempt-end-2 : goal.slice_bounds-attempt-end-2
 slice_bounds-attempt-end-2 c = sym (length-take-le _ _ (parts (goal.at.slice_bounds-attempt-end-2 c).Start).terms-in)
 
+pub slice_bounds-attempt-end-3 : goal.slice_bounds-attempt-end-3
+slice_bounds-attempt-end-3 c = (parts (goal.at.slice_bounds-attempt-end-3 c).Start).nodes-in
+
+pub slice_bounds-attempt-end-4 : goal.slice_bounds-attempt-end-4
+slice_bounds-attempt-end-4 c = sym (length-take-le _ _ (parts (goal.at.slice_bounds-attempt-end-4 c).Start).nodes-in)
+
+pub slice_bounds-attempt-end-5 : goal.slice_bounds-attempt-end-5
+slice_bounds-attempt-end-5 c = (parts (goal.at.slice_bounds-attempt-end-5 c).Start).held_in
+
+pub slice_bounds-attempt-end-6 : goal.slice_bounds-attempt-end-6
+slice_bounds-attempt-end-6 c = sym (length-take-le _ _ (parts (goal.at.slice_bounds-attempt-end-6 c).Start).held_in)
+
+pub slice_bounds-attempt-end-7 : goal.slice_bounds-attempt-end-7
+slice_bounds-attempt-end-7 c = (parts (goal.at.slice_bounds-attempt-end-7 c).Start).right-in
+
+pub slice_bounds-attempt-end-8 : goal.slice_bounds-attempt-end-8
+slice_bounds-attempt-end-8 c = sym (length-take-le _ _ (parts (goal.at.slice_bounds-attempt-end-8 c).Start).right-in)
+
 pub slice_bounds-attempt-end-9 : goal.slice_bounds-attempt-end-9
 slice_bounds-attempt-end-9 c = rw (← gates-length c.args.run.now) (parts (goal.at.slice_bounds-attempt-end-9 c).Start).steps-in
 
@@ -25,6 +43,4 @@ pub slice_bounds-attempt-end-10 : goal.slice_bounds-attempt-end-10
 slice_bounds-attempt-end-10 c = rw (← gates-length c.args.run.now) (sym (length-take-le _ _ (parts (goal.at.slice_bounds-attempt-end-10 c).Start).steps-in))
 
 pub attempt-p-requires : goal.attempt-p-requires
-attempt-p-requires c =
-    let n = c.requires.flushable.holds.rows_are.joins.few in
-    rw (← gates-length c.args.run.now) (fitted _ _ _ _ _ _ c.requires.flushable c.requires.lent _ _ _ (omega (arith, n)) (omega (arith, n)) (omega (arith, n)))
+attempt-p-requires c = rw (← gates-length c.args.run.now) (fitted _ _ _ _ _ _ _ _ _ c.requires.flushable c.requires.lent)

@@ -8,8 +8,9 @@ use Rattle.plain_flush.proofs.flush.Goals.{Start}
 
 parts : (c : Start)
     → let s = c.args in let f = c.requires.flushable in
-    Enough s.run.now s.place.now s.block.now s.table.now s.room.now s.steps.now f (first s.run.now s.place.now s.block.now s.table.now s.room.now s.steps.now s.whole.now f c.requires.lent)
-parts c = enough _ _ _ _ _ _ _ c.requires.flushable c.requires.lent
+    Enough s.run.now s.place.now s.block.now s.table.now s.room.now s.nodes.now s.held.now s.right.now s.steps.now f
+    (first s.run.now s.place.now s.block.now s.table.now s.room.now s.nodes.now s.held.now s.right.now s.steps.now s.whole.now f c.requires.lent)
+parts c = enough _ _ _ _ _ _ _ _ _ _ c.requires.flushable c.requires.lent
 
 pub overflow_mul-terms : goal.overflow_mul-terms
 overflow_mul-terms c = omega (arith, (parts (goal.at.overflow_mul-terms c).Start).terms-in)
@@ -20,11 +21,26 @@ slice_bounds-settle-end c = (parts (goal.at.slice_bounds-settle-end c).Start).te
 pub slice_bounds-settle-end-2 : goal.slice_bounds-settle-end-2
 slice_bounds-settle-end-2 c = sym (length-take-le _ _ (parts (goal.at.slice_bounds-settle-end-2 c).Start).terms-in)
 
+pub slice_bounds-settle-end-3 : goal.slice_bounds-settle-end-3
+slice_bounds-settle-end-3 c = (parts (goal.at.slice_bounds-settle-end-3 c).Start).nodes-in
+
+pub slice_bounds-settle-end-4 : goal.slice_bounds-settle-end-4
+slice_bounds-settle-end-4 c = sym (length-take-le _ _ (parts (goal.at.slice_bounds-settle-end-4 c).Start).nodes-in)
+
+pub slice_bounds-settle-end-5 : goal.slice_bounds-settle-end-5
+slice_bounds-settle-end-5 c = (parts (goal.at.slice_bounds-settle-end-5 c).Start).held_in
+
+pub slice_bounds-settle-end-6 : goal.slice_bounds-settle-end-6
+slice_bounds-settle-end-6 c = sym (length-take-le _ _ (parts (goal.at.slice_bounds-settle-end-6 c).Start).held_in)
+
+pub slice_bounds-settle-end-7 : goal.slice_bounds-settle-end-7
+slice_bounds-settle-end-7 c = (parts (goal.at.slice_bounds-settle-end-7 c).Start).right-in
+
+pub slice_bounds-settle-end-8 : goal.slice_bounds-settle-end-8
+slice_bounds-settle-end-8 c = sym (length-take-le _ _ (parts (goal.at.slice_bounds-settle-end-8 c).Start).right-in)
+
 pub settle-r-requires : goal.settle-r-requires
-settle-r-requires c =
-    let f = c.requires.flushable in
-    let n = f.holds.rows_are.joins.few in
-    record { fitted = fitted _ _ _ _ _ _ _ f c.requires.lent _ _ _ (omega (arith, n)) (omega (arith, n)) (omega (arith, n)); exact = f.exact }
+settle-r-requires c = record { fitted = fitted _ _ _ _ _ _ _ _ _ _ c.requires.flushable c.requires.lent; exact = c.requires.flushable.exact }
 
 pub returns : goal.returns
 returns c = record { keeps = c.settle-r.ensures; leaves = c.leave.ensures }
