@@ -19,7 +19,7 @@ use rules::MAX_COLUMNS;
 
 // How many wires have joined; bit i of `flips` is the constant of local index i; how many terms there are; by local index, the name of its wire and the
 // parity that it holds. Behind the wires that have joined, names and rows may be any.
-#[derive(Drop)]
+#[derive(Clone, Copy)]
 pub struct Block {
     pub wires: u32,
     pub flips: Parity,
