@@ -19,12 +19,16 @@ fn count(set: u64) -> u64
 }
 
 // The distance between twice the ones and the size.
-fn distance(set: u64, having: u64) -> u64 {
+fn distance(set: u64, having: u64) -> u64
+    ensures { result ≤ 128 }
+{
     (2 * count(set & having)).abs_diff(count(set))
 }
 
 // The size of the larger side.
-fn side(set: u64, having: u64) -> u64 {
+fn side(set: u64, having: u64) -> u64
+    ensures { result ≤ 128 }
+{
     count(set & having).max(count(set & !having))
 }
 
