@@ -1,5 +1,6 @@
--- Numbers as bytes, the lowest first.
-use Rattle.std.specs.Prelude.{◌≡◌, cond, List, ℕ, ◌+◌, ◌-◌, ◌*◌, ◌<◌, ltb, ℤ, pos, negsuc, length, get_or}
+-- Numbers as bytes, the lowest first, and what the functions keep: what waits within its rooms.
+use Rattle.std.specs.Prelude.{◌≡◌, cond, List, ℕ, ◌+◌, ◌-◌, ◌*◌, ◌≤◌, ◌<◌, ltb, ℤ, pos, negsuc, length, get_or}
+use Rattle.flow.specs.declared.Places.{Places}
 
 -- the number of four bytes
 abbrev pub joined : ℕ → ℕ → ℕ → ℕ → ℕ
@@ -19,3 +20,9 @@ signed x = cond (ltb x 2147483648) (pos x) (negsuc (4294967295 - x))
 -- the numbers of the bytes
 abbrev pub Loaded : List ℕ → List ℤ → Type 0
 Loaded bytes list = (i : ℕ) → i < length list → get_or list i (pos 0) ≡ signed (word_at bytes i)
+
+-- the bytes that wait lie within an input of i bytes and an output of o bytes
+pub record Held (p : Places) (i o : ℕ) : Type 0 where
+  pub waits : p.at ≤ p.end
+  pub ends : p.end ≤ i
+  pub writes : p.used ≤ o

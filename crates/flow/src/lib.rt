@@ -1,12 +1,14 @@
 // Numbers of 32 and 64 bits as bytes, read and written in a stream, all little-endian.
 #![tactic(auto)]
 
-ghost use Rattle.std.specs.Prelude.{◌≡◌, ◌⊎◌, true, false, ℕ, ◌+◌, ◌-◌, ◌*◌, ◌%◌, ◌≤◌, ◌<◌, length, take, slice_range, IfOk, OnErr};
+ghost use Rattle.std.specs.Prelude.{◌≡◌, ◌⊎◌, ⊤, true, false, ℕ, ◌+◌, ◌-◌, ◌*◌, ◌%◌, ◌≤◌, ◌<◌, length, take, slice_range, IfOk, OnErr};
 ghost use Rattle.std.specs.Io.KnownBytes.{Appends, Consumes, IsAtEnd, Keeps};
 ghost use Rattle.flow.specs.Flowing as Flowing;
+ghost use Rattle.flow.specs.Flowing.{Held};
 ghost use Rattle.flow.specs.Streams as Streams;
-ghost use Rattle.flow.specs.Streams.{coming, gone, spelled_all};
+ghost use Rattle.flow.specs.Streams.{coming, gone, spelled, spelled_all, PutSome};
 
+use std::alloc::AllocError;
 use std::io;
 use std::io::{Read, Write};
 use streams::Page;
@@ -43,6 +45,23 @@ pub fn load(bytes: &[u8], list: &mut [i32])
 
 // ---- the input, read as it comes
 
+// What waits in rooms that are lent: the bytes of the input from `at` to `end` to be used, the first `used` bytes of the output to be written. After an
+// error of a stream there is nothing to go on with: what waited to be written may be written in part, and what was read is lost.
+#[derive(Clone, Copy)]
+pub struct Places {
+    pub at: usize,
+    pub end: usize,
+    pub used: usize,
+}
+
+// The waiting bytes, moved to the front.
+fn shift(input: &mut [u8], at: usize, end: usize)
+    requires { (at ≤ end) × (end ≤ length input.old) }
+    ensures { take (end - at) input.new ≡ slice_range input.old at end }
+{
+    input.copy_within(at..end, 0);
+}
+
 // One read behind the bytes that are there: where they end then.
 fn read_on<R: Read>(reader: &mut R, input: &mut [u8], end: usize) -> io::Result<usize>
     requires { end ≤ length input.old }
@@ -77,6 +96,36 @@ fn read_up<R: Read>(reader: &mut R, input: &mut [u8], from: usize, n: usize) -> 
     Ok(end)
 }
 
+// The places once n bytes wait, if so many still come. What was answered is written before the program waits: after an error nothing was read, or all of
+// it is written.
+pub fn fill<R: Read, W: Write>(
+    reader: &mut R,
+    writer: &mut W,
+    input: &mut [u8],
+    output: &[u8],
+    places: Places,
+    n: usize,
+) -> io::Result<Places>
+    requires { Held places (length input.old) (length output.now) }
+    ensures ok { IfOk result (λ next. Held next (length input.old) (length output.now)) }
+    ensures came { IfOk result (λ next. Keeps (coming (R.remaining reader.old) input.old places.at places.end) (coming (R.remaining reader.new) input.new next.at next.end)) }
+    ensures went { IfOk result (λ next. Keeps (gone (W.contents writer.old) output.now places.used) (gone (W.contents writer.new) output.now next.used)) }
+    ensures done { IfOk result (λ next. next.end - next.at < n → n ≤ length input.old → IsAtEnd (R.remaining reader.new)) }
+    ensures err { OnErr result (Keeps (R.remaining reader.old) (R.remaining reader.new)
+        ⊎ Appends (W.contents writer.old) (W.contents writer.new) (take places.used output.now)) }
+{
+    if n <= places.end - places.at {
+        return Ok(places);
+    }
+    writer.write_all(&output[..places.used])?;
+    shift(&mut *input, places.at, places.end);
+    Ok(Places {
+        at: 0,
+        end: read_up(reader, input, places.end - places.at, n)?,
+        used: 0,
+    })
+}
+
 // A reader, and the bytes that wait to be used: those of the room from `at` to `end`. After an error of a stream there is nothing to go on with: what
 // was read is lost.
 #[derive(Drop)]
@@ -88,6 +137,19 @@ pub struct Flow<R, const N: usize> {
     ghost waits: { at ≤ end },
     ghost ends: { end ≤ N },
 }
+
+// A flow is copied where its reader is.
+impl<R: Copy, const N: usize> Clone for Flow<R, N> {
+    ghost is_clone = { λ x y. y ≡ x };
+
+    ghost is_infallible = { λ _. ⊤ };
+
+    fn clone(&self) -> Result<Self, AllocError> {
+        Ok(*self)
+    }
+}
+
+impl<R: Copy, const N: usize> Copy for Flow<R, N> {}
 
 impl<R: Read, const N: usize> Flow<R, N> {
     // Nothing waits.
@@ -106,7 +168,7 @@ impl<R: Read, const N: usize> Flow<R, N> {
     fn shift(&mut self)
         ensures { (self.new.reader ≡ self.old.reader) × (self.new.at ≡ 0) × (self.new.end ≡ self.old.end - self.old.at) × (take self.new.end self.new.bytes ≡ slice_range self.old.bytes self.old.at self.old.end) }
     {
-        self.bytes.copy_within(self.at..self.end, 0);
+        shift(&mut self.bytes, self.at, self.end);
         self.end -= self.at;
         self.at = 0;
     }
@@ -123,8 +185,10 @@ impl<R: Read, const N: usize> Flow<R, N> {
         ensures came { IfOk result (λ _. Keeps (coming (R.remaining self.old.reader) self.old.bytes self.old.at self.old.end) (coming (R.remaining self.new.reader) self.new.bytes self.new.at self.new.end)) }
         ensures went { IfOk result (λ _. Keeps (gone (W.contents page.old.writer) page.old.bytes page.old.used) (gone (W.contents page.new.writer) page.new.bytes page.new.used)) }
         ensures done { IfOk result (λ there. self.new.end - self.new.at < n → n ≤ N → IsAtEnd (R.remaining self.new.reader)) }
-        ensures err { OnErr result (Keeps (R.remaining self.old.reader) (R.remaining self.new.reader)
-            ⊎ Appends (W.contents page.old.writer) (W.contents page.new.writer) (take page.old.used page.old.bytes)) }
+        ensures bytes { page.new.bytes ≡ page.old.bytes }
+        ensures err { OnErr result (
+            (Keeps (R.remaining self.old.reader) (R.remaining self.new.reader) × (self.new.bytes ≡ self.old.bytes) × (self.new.at ≡ self.old.at) × (self.new.end ≡ self.old.end) × (page.new.used ≡ page.old.used))
+            ⊎ (Appends (W.contents page.old.writer) (W.contents page.new.writer) (take page.old.used page.old.bytes) × (page.new.used ≡ 0))) }
     {
         if n <= self.end - self.at {
             return Ok(true);
@@ -180,17 +244,63 @@ impl Spelled for i32 {
     }
 }
 
-// Each number, behind the bytes that wait.
+// The number behind the bytes that wait, which are written first where there is no room: how many wait then.
+fn put_number<W: Write>(writer: &mut W, output: &mut [u8], used: usize, x: u32) -> io::Result<usize>
+    requires { (used ≤ length output.old) × (4 ≤ length output.old) }
+    ensures ok { IfOk result (λ end. end ≤ length output.old) }
+    ensures went { IfOk result (λ end. Appends (gone (W.contents writer.old) output.old used) (gone (W.contents writer.new) output.new end) (spelled x)) }
+    ensures err { OnErr result (output.new ≡ output.old) }
+{
+    let bytes = x.to_le_bytes();
+    streams::put(writer, output, used, &bytes)
+}
+
+// Each number: how many bytes wait is lent too, so that after an error it is known what the numbers before have left.
+fn put_each<T: Spelled, W: Write>(
+    writer: &mut W,
+    output: &mut [u8],
+    used: &mut usize,
+    numbers: &[T],
+) -> io::Result<()>
+    requires { (used.old ≤ length output.old) × (4 ≤ length output.old) }
+    ensures within { used.new ≤ length output.old }
+    ensures went { IfOk result (λ _. Appends (gone (W.contents writer.old) output.old used.old) (gone (W.contents writer.new) output.new used.new) (spelled_all T.bits numbers.now)) }
+    ensures err { OnErr result (PutSome (gone (W.contents writer.old) output.old used.old) output.new used.new T.bits numbers.now) }
+{
+    for number in numbers {
+        *used = put_number(writer, &mut *output, *used, number.bits())?;
+    }
+    Ok(())
+}
+
+// Each number, behind the first `used` bytes of a room that is lent: how many wait then.
+pub fn put_numbers<T: Spelled, W: Write>(
+    writer: &mut W,
+    output: &mut [u8],
+    used: usize,
+    numbers: &[T],
+) -> io::Result<usize>
+    requires { (used ≤ length output.old) × (4 ≤ length output.old) }
+    ensures ok { IfOk result (λ end. end ≤ length output.old) }
+    ensures went { IfOk result (λ end. Appends (gone (W.contents writer.old) output.old used) (gone (W.contents writer.new) output.new end) (spelled_all T.bits numbers.now)) }
+    ensures err { OnErr result (length output.new ≡ length output.old) }
+{
+    let mut at = used;
+    put_each(writer, output, &mut at, numbers)?;
+    Ok(at)
+}
+
+// Each number, behind the bytes that wait. After an error so do those that came before the one that failed, as far as they weren't written.
 pub fn put<T: Spelled, W: Write, const N: usize>(
     page: &mut Page<W, N>,
     numbers: &[T],
 ) -> io::Result<()>
     requires { 4 ≤ N }
-    ensures { IfOk result (λ _. Appends (gone (W.contents page.old.writer) page.old.bytes page.old.used) (gone (W.contents page.new.writer) page.new.bytes page.new.used) (spelled_all T.bits numbers.now)) }
+    ensures went { IfOk result (λ _. Appends (gone (W.contents page.old.writer) page.old.bytes page.old.used) (gone (W.contents page.new.writer) page.new.bytes page.new.used) (spelled_all T.bits numbers.now)) }
+    ensures err { OnErr result (PutSome (gone (W.contents page.old.writer) page.old.bytes page.old.used) page.new.bytes page.new.used T.bits numbers.now) }
 {
-    for number in numbers {
-        let bytes = number.bits().to_le_bytes();
-        page.put(&bytes)?;
-    }
-    Ok(())
+    let mut used = page.used;
+    let put = put_each(&mut page.writer, &mut page.bytes, &mut used, numbers);
+    page.used = used;
+    put
 }

@@ -46,6 +46,37 @@ pub fn read_full<R: Read>(reader: &mut R, buffer: &mut [u8]) -> io::Result<usize
     Ok(done)
 }
 
+// Room for n bytes behind the first `used` of a room, which wait to be written, and are where they take too much: how many wait then.
+fn spare<W: Write>(writer: &mut W, room: &[u8], used: usize, n: usize) -> io::Result<usize>
+    requires { (used ≤ length room.now) × (n ≤ length room.now) }
+    ensures fits { IfOk result (λ at. at + n ≤ length room.now) }
+    ensures went { IfOk result (λ at. Keeps (gone (W.contents writer.old) room.now used) (gone (W.contents writer.new) room.now at)) }
+{
+    if n <= room.len() - used {
+        return Ok(used);
+    }
+    writer.write_all(&room[..used])?;
+    Ok(0)
+}
+
+// Some bytes behind the first `used` of a room that is lent, which wait to be written: how many wait then.
+pub fn put<W: Write>(
+    writer: &mut W,
+    room: &mut [u8],
+    used: usize,
+    bytes: &[u8],
+) -> io::Result<usize>
+    requires { (used ≤ length room.old) × (length bytes.now ≤ length room.old) }
+    ensures ok { IfOk result (λ end. end ≤ length room.old) }
+    ensures went { IfOk result (λ end. Appends (gone (W.contents writer.old) room.old used) (gone (W.contents writer.new) room.new end) bytes.now) }
+    ensures err { OnErr result (room.new ≡ room.old) }
+{
+    let at = spare(writer, &*room, used, bytes.len())?;
+    let end = at + bytes.len();
+    room[at..end].copy_from_slice(bytes);
+    Ok(end)
+}
+
 // A writer, and the bytes that wait to be written: the first `used` of the room. After an error what waited may be written in part.
 #[derive(Drop)]
 pub struct Page<W, const N: usize> {
@@ -71,6 +102,7 @@ impl<W: Write, const N: usize> Page<W, N> {
     pub fn flush(&mut self) -> io::Result<()>
         ensures went { IfOk result (λ _. Keeps (gone (W.contents self.old.writer) self.old.bytes self.old.used) (gone (W.contents self.new.writer) self.new.bytes self.new.used)) }
         ensures none { IfOk result (λ _. self.new.used ≡ 0) }
+        ensures bytes { self.new.bytes ≡ self.old.bytes }
         ensures err { OnErr result (self.new.used ≡ self.old.used) }
     {
         self.writer.write_all(&self.bytes[..self.used])?;
@@ -79,27 +111,24 @@ impl<W: Write, const N: usize> Page<W, N> {
     }
 
     // Room for n bytes, for which what waits is written where it takes too much.
-    fn spare(&mut self, n: usize) -> io::Result<()>
+    pub fn spare(&mut self, n: usize) -> io::Result<()>
         requires { n ≤ N }
         ensures fits { IfOk result (λ _. self.new.used + n ≤ N) }
         ensures went { IfOk result (λ _. Keeps (gone (W.contents self.old.writer) self.old.bytes self.old.used) (gone (W.contents self.new.writer) self.new.bytes self.new.used)) }
+        ensures bytes { self.new.bytes ≡ self.old.bytes }
+        ensures err { OnErr result (self.new.used ≡ self.old.used) }
     {
-        if n <= N - self.used {
-            return Ok(());
-        }
-        self.flush()
+        self.used = spare(&mut self.writer, &self.bytes, self.used, n)?;
+        Ok(())
     }
 
     // Some bytes behind those that wait.
     pub fn put(&mut self, bytes: &[u8]) -> io::Result<()>
         requires { length bytes.now ≤ N }
-        ensures { IfOk result (λ _. Appends (gone (W.contents self.old.writer) self.old.bytes self.old.used) (gone (W.contents self.new.writer) self.new.bytes self.new.used) bytes.now) }
+        ensures went { IfOk result (λ _. Appends (gone (W.contents self.old.writer) self.old.bytes self.old.used) (gone (W.contents self.new.writer) self.new.bytes self.new.used) bytes.now) }
+        ensures err { OnErr result ((self.new.bytes ≡ self.old.bytes) × (self.new.used ≡ self.old.used)) }
     {
-        self.spare(bytes.len())?;
-        let end = self.used + bytes.len();
-        let room = &mut self.bytes[..];
-        room[self.used..end].copy_from_slice(bytes);
-        self.used = end;
+        self.used = put(&mut self.writer, &mut self.bytes, self.used, bytes)?;
         Ok(())
     }
 }
