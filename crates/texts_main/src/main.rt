@@ -55,7 +55,7 @@ fn skip<R: Read>(reader: &mut R, n: usize) -> io::Result<bool> {
     Ok(past == n as u64)
 }
 
-// What is printed goes behind what waits, its length first.
+// What is printed goes behind what waits, its length first. What waits is written first where both don't fit, so that each write ends with an answer.
 fn answer<W: Write, O: AsSlice<u8> + Drop, F: FnOnce(&[u8], &mut O) -> Said>(
     page: &mut Page<W, OUTPUT>,
     text: &[u8],
@@ -67,6 +67,7 @@ fn answer<W: Write, O: AsSlice<u8> + Drop, F: FnOnce(&[u8], &mut O) -> Said>(
     requires short { length (O.items room) ≤ trace_bytes }
 {
     let said = program(text, &mut room);
+    page.spare(4 + said.length)?;
     page.put(&(said.length as u32).to_le_bytes())?;
     page.put(&room.as_slice()[..said.length])
 }
