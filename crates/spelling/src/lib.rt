@@ -47,6 +47,19 @@ impl Form {
     }
 }
 
+// A form by its number: that of `head 4`, and the fifth number of `head 5`. Every number has a meaning: below 4 is as 4, above 6 as 6.
+impl From<u32> for Form {
+    ghost from_gives = { λ n form. form_of form ≡ Texts.form_of n };
+
+    fn from(n: u32) -> Form {
+        match n {
+            0..=4 => Form::Four,
+            5 => Form::Five,
+            _ => Form::Six,
+        }
+    }
+}
+
 // As read: neither cap is clamped.
 #[derive(Clone, Copy)]
 pub struct Head {
