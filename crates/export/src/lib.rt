@@ -56,7 +56,7 @@ impl Program for Translate {
                 length: qasm::write_qasm(out, 0, head.wires, head.bits, numbers),
                 refused: false,
             },
-            Err(reason) => saying::refuse(out, reason),
+            Err(reason) => saying::decline(out, reason),
         }
     }
 

@@ -66,7 +66,7 @@ impl<E: Engine> Program for ByEngine<E> {
         let mut new = [0i32; GATE_WIDTH * LIST_GATES];
         match fitting::minimize::<E>(numbers, head, &mut new) {
             Ok(c) => print(out, head, &new[..GATE_WIDTH * c.gatesout], c),
-            Err(r) => saying::refuse(out, Reason::List(r)),
+            Err(r) => saying::decline(out, Reason::List(r)),
         }
     }
 

@@ -7,6 +7,7 @@ ghost use Rattle.spelling.specs.Sizes.{list_gates, answer_bytes};
 ghost use Rattle.spelling.specs.Texts as Texts;
 ghost use Rattle.spelling.specs.Heads.{head_of};
 ghost use Rattle.saying.specs.Answer as Paper;
+ghost use Rattle.saying.specs.Answer.{refusal};
 ghost use Rattle.saying.specs.declared.Reason.TheVariants as Reasons;
 ghost use Rattle.saying.specs.Reasons.{reason_of, place_of, three, told};
 ghost use Rattle.saying.specs.Clauses.{Says, Few, Takes, Given};
@@ -74,16 +75,25 @@ impl From<Wrong> for Reason {
     }
 }
 
-// What is printed for it.
-pub fn refuse(out: &mut [u8], reason: Reason) -> Said
+// Number, place and field.
+pub fn refuse(out: &mut [u8], number: u32, place: u32, field: u32) -> Said
+    requires { answer_bytes ≤ length out.old }
+    ensures { Says (refusal number place field) out.old result out.new }
+{
+    Said {
+        length: printing::write_refusal(out, 0, &[number, place, field]),
+        refused: true,
+    }
+}
+
+// What is printed for a reason.
+pub fn decline(out: &mut [u8], reason: Reason) -> Said
     requires room { answer_bytes ≤ length out.old }
     requires fits { place_of reason < 2 ^ 32 }
     ensures { Says (told reason) out.old result out.new }
 {
-    Said {
-        length: printing::write_refusal(out, 0, &reason.numbers()),
-        refused: true,
-    }
+    let [number, place, field] = reason.numbers();
+    refuse(out, number, place, field)
 }
 
 // 10, then line by line: the head, and how many gates. Their numbers go into the room.
@@ -129,6 +139,6 @@ pub fn answer<P: Program>(text: &[u8], out: &mut [u8]) -> Said
     let mut numbers = [0i32; GATE_WIDTH * LIST_GATES];
     match P::take(text, &mut numbers) {
         Ok((head, n)) => P::say(&numbers[..GATE_WIDTH * n], head, out),
-        Err(reason) => refuse(out, reason),
+        Err(reason) => decline(out, reason),
     }
 }

@@ -43,7 +43,7 @@ impl Program for Minimize {
                 ),
                 refused: false,
             },
-            Err(r) => saying::refuse(out, Reason::List(r)),
+            Err(r) => saying::decline(out, Reason::List(r)),
         }
     }
 
