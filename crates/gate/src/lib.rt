@@ -315,13 +315,12 @@ impl Fields {
             & (inside(self.first, wires) & ((self.third == 0) & !negative(self.line)))
     }
 
-    // The first that is wrong: 6, 7, the fields from left to right, 9, 18. The tests are made only of a gate that is not plain.
-    fn fault(self, wires: usize, bits: usize) -> Option<Fault>
+    // The first that is wrong: 6, 7, the fields from left to right, 9, 18. Not expanded where it is called, so that the check of a list has the quick
+    // test alone in its loop.
+    #[inline(never)]
+    fn failed(self, wires: usize, bits: usize) -> Option<Fault>
         ensures { told result ≡ fault_of self wires bits }
     {
-        if self.plain(wires) {
-            return None;
-        }
         let c = self.code;
         let first_off = !inside(self.first, wires);
         let second_off = second(c) & !inside(self.second, wires);
@@ -338,6 +337,16 @@ impl Fields {
             (negative(self.line), Fault::Line),
         ];
         first_of(&tests)
+    }
+
+    // The same; the tests are made only of a gate that is not plain.
+    fn fault(self, wires: usize, bits: usize) -> Option<Fault>
+        ensures { told result ≡ fault_of self wires bits }
+    {
+        if self.plain(wires) {
+            return None;
+        }
+        self.failed(wires, bits)
     }
 }
 
