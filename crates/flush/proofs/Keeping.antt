@@ -2,13 +2,14 @@
 use mathlib.Core.Path.{◌≡◌, refl, sym, ap, ◌∙◌}
 use mathlib.Core.Logic.{◌⊎◌, inl, inr}
 use mathlib.Core.Bool.{true, false, ◌&&◌, false≢true}
-use mathlib.Core.List.{List, []}
+use mathlib.Core.List.{List, [], ◌∷◌, ◌++◌}
 use mathlib.Core.Option.{Option, none, some}
-use Prim.Native.Nat.{ℕ, ◌*◌, ◌≤◌, ◌<◌}
+use Prim.Native.Nat.{ℕ, ◌+◌, ◌*◌, ◌≤◌, ◌<◌}
 use native.Mathlib.Omega.{arith}
+use native.Mathlib.Numerals.{add-one}
 use lib.IntN.{ℤ}
-use lib.ListN.{length, take}
-use lib.Seq.{take_all}
+use lib.ListN.{length, get_or, set, take}
+use lib.Seq.{take_all, take-suc, take-suc-set}
 use Rattle.rules.specs.Limits.{width}
 use Rattle.rules.specs.Gate.{Gate}
 use Rattle.rules.specs.Numbers.{gates_of, numbers_of}
@@ -148,3 +149,13 @@ pub lined-stopped : (write : Writer) (gs : List Gate) (place : List ℤ) (p : Re
 unfolding lined
 lined-stopped write gs place p s t =
     record { made = λ w. absurd (false≢true (sym s ∙ w)); stopped = λ _. stamp-cheaper (line_of gs) (write gs) gs ∙ t.stopped s }
+
+-- ---- a copy, number by number
+
+pub copy-next : (run place : List ℤ) (i : ℕ) (d : ℤ) → i < length run → length place ≡ length run → take i place ≡ take i run → take (i + 1) (set place i (get_or run i d)) ≡ take (i + 1) run
+copy-next run place i d l n e =
+    ap (λ (k : ℕ). take k (set place i (get_or run i d))) (add-one i) ∙ take-suc-set place i (get_or run i d) (omega arith)
+    ∙ ap (λ (t : List ℤ). t ++ (get_or run i d ∷ [])) e ∙ sym (take-suc run i d l) ∙ ap (λ (k : ℕ). take k run) (sym (add-one i))
+
+pub copy-end : (run place : List ℤ) (i : ℕ) → length run ≤ i → length place ≡ length run → take i place ≡ take i run → place ≡ run
+copy-end run place i l n e = sym (take_all i place (omega arith)) ∙ e ∙ take_all i run l

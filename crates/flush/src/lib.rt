@@ -36,6 +36,17 @@ pub fn cheaper(b: Budget) -> bool
     (b.all <= b.maxall) & ((b.two < b.maxtwo) | ((b.two == b.maxtwo) & (b.all < b.maxall)))
 }
 
+// The run at the place.
+// Stays: `copy_from_slice` calls C's `memmove`, which the library would then need from the program that links it.
+pub fn copy(run: &[i32], place: &mut [i32])
+    requires { length place.old ≡ length run.now }
+    ensures { place.new ≡ run.now }
+{
+    for i in 0..run.len() {
+        place[i] = run[i];
+    }
+}
+
 // Keeps what was written at the place, or copies the run there: the choice, whatever the writer is.
 fn settle(run: &[i32], place: &mut [i32], p: Result<Budget, Spent>) -> Flushed
     requires { length place.old ≡ length run.now }
@@ -47,7 +58,7 @@ fn settle(run: &[i32], place: &mut [i32], p: Result<Budget, Spent>) -> Flushed
             replaced: true,
         },
         _ => {
-            place.copy_from_slice(run);
+            copy(run, place);
             Flushed {
                 gates: run.len() / GATE_WIDTH,
                 replaced: false,

@@ -34,7 +34,7 @@ fn stay(run: &[i32], place: &mut [i32], new: usize) -> Kept
     requires { length place.old ≡ length run.now }
     ensures { (write : Writer) → Exact run.now → cheaper (write (gates_of run.now)) (gates_of run.now) ≡ false → new ≡ twos (write (gates_of run.now)) → Keeps write run.now place.new result }
 {
-    place.copy_from_slice(run);
+    flush::copy(run, place);
     Kept {
         flushed: Flushed {
             gates: run.len() / GATE_WIDTH,
@@ -58,7 +58,7 @@ fn keep(run: &[i32], place: &mut [i32], whole: &[i32], k: usize) -> Kept
         maxall: run.len() / GATE_WIDTH,
     };
     if flush::cheaper(counts) {
-        place[..end].copy_from_slice(&whole[..end]);
+        flush::copy(&whole[..end], &mut place[..end]);
         Kept {
             flushed: Flushed {
                 gates: k,

@@ -17,4 +17,4 @@ returns-in_default c write x t =
     let a = c.args in
     let test : (made a.p && keeps (counts_after a.p)) ≡ false =
     elim c.in_default.branch [ in_default-via-in-Ok+else-cheaper w ↦ rw w.in-Ok.is (sym w.cheaper.ensures ∙ w.if-cheaper.false) | in_default-via-in_default w ↦ rw w.in_default.is refl ] in
-    copied write a.run.now a.place.now a.p t x test _ _ c.copy_from_slice.ensures.after (sym (gates-length a.run.now))
+    copied write a.run.now a.place.now a.p t x test _ _ c.copy.ensures (sym (gates-length a.run.now))

@@ -10,7 +10,7 @@ use Rattle.plain_flush.proofs.keep.Goals.{Then-cheaper}
 pub returns-then-cheaper : goal.returns-then-cheaper
 returns-then-cheaper c write x s =
     let a = c.args in
-    let e = c.copy_from_slice.ensures.after in
+    let e = c.copy.ensures in
     keeps-new write a.run.now a.whole.now a.k x s _ _ _ c.count_two-new.ensures c.count_two.ensures (sym (gates-length a.run.now)) (sym c.cheaper.ensures ∙ c.if-cheaper.true) _
     (take_at _ _ (width * a.k) (ap length e ∙ length-take-le (width * a.k) a.whole.now c.requires.1) ∙ e)
 

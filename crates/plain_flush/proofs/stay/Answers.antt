@@ -5,4 +5,4 @@ use Rattle.plain_flush.proofs.Choosing.{keeps-run}
 use Rattle.plain_flush.proofs.stay.Goals as goal
 
 pub returns : goal.returns
-returns c write x e f = keeps-run write c.args.run.now _ _ _ x e f c.copy_from_slice.ensures.after (sym (gates-length c.args.run.now))
+returns c write x e f = keeps-run write c.args.run.now _ _ _ x e f c.copy.ensures (sym (gates-length c.args.run.now))
