@@ -18,24 +18,6 @@ slice_bounds-attempt-end c = (parts (goal.at.slice_bounds-attempt-end c).Start).
 pub slice_bounds-attempt-end-2 : goal.slice_bounds-attempt-end-2
 slice_bounds-attempt-end-2 c = sym (length-take-le _ _ (parts (goal.at.slice_bounds-attempt-end-2 c).Start).terms-in)
 
-pub slice_bounds-attempt-end-3 : goal.slice_bounds-attempt-end-3
-slice_bounds-attempt-end-3 c = (parts (goal.at.slice_bounds-attempt-end-3 c).Start).nodes-in
-
-pub slice_bounds-attempt-end-4 : goal.slice_bounds-attempt-end-4
-slice_bounds-attempt-end-4 c = sym (length-take-le _ _ (parts (goal.at.slice_bounds-attempt-end-4 c).Start).nodes-in)
-
-pub slice_bounds-attempt-end-5 : goal.slice_bounds-attempt-end-5
-slice_bounds-attempt-end-5 c = (parts (goal.at.slice_bounds-attempt-end-5 c).Start).held_in
-
-pub slice_bounds-attempt-end-6 : goal.slice_bounds-attempt-end-6
-slice_bounds-attempt-end-6 c = sym (length-take-le _ _ (parts (goal.at.slice_bounds-attempt-end-6 c).Start).held_in)
-
-pub slice_bounds-attempt-end-7 : goal.slice_bounds-attempt-end-7
-slice_bounds-attempt-end-7 c = (parts (goal.at.slice_bounds-attempt-end-7 c).Start).right-in
-
-pub slice_bounds-attempt-end-8 : goal.slice_bounds-attempt-end-8
-slice_bounds-attempt-end-8 c = sym (length-take-le _ _ (parts (goal.at.slice_bounds-attempt-end-8 c).Start).right-in)
-
 pub slice_bounds-attempt-end-9 : goal.slice_bounds-attempt-end-9
 slice_bounds-attempt-end-9 c = rw (← gates-length c.args.run.now) (parts (goal.at.slice_bounds-attempt-end-9 c).Start).steps-in
 

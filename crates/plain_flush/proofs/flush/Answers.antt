@@ -21,24 +21,6 @@ slice_bounds-settle-end c = (parts (goal.at.slice_bounds-settle-end c).Start).te
 pub slice_bounds-settle-end-2 : goal.slice_bounds-settle-end-2
 slice_bounds-settle-end-2 c = sym (length-take-le _ _ (parts (goal.at.slice_bounds-settle-end-2 c).Start).terms-in)
 
-pub slice_bounds-settle-end-3 : goal.slice_bounds-settle-end-3
-slice_bounds-settle-end-3 c = (parts (goal.at.slice_bounds-settle-end-3 c).Start).nodes-in
-
-pub slice_bounds-settle-end-4 : goal.slice_bounds-settle-end-4
-slice_bounds-settle-end-4 c = sym (length-take-le _ _ (parts (goal.at.slice_bounds-settle-end-4 c).Start).nodes-in)
-
-pub slice_bounds-settle-end-5 : goal.slice_bounds-settle-end-5
-slice_bounds-settle-end-5 c = (parts (goal.at.slice_bounds-settle-end-5 c).Start).held_in
-
-pub slice_bounds-settle-end-6 : goal.slice_bounds-settle-end-6
-slice_bounds-settle-end-6 c = sym (length-take-le _ _ (parts (goal.at.slice_bounds-settle-end-6 c).Start).held_in)
-
-pub slice_bounds-settle-end-7 : goal.slice_bounds-settle-end-7
-slice_bounds-settle-end-7 c = (parts (goal.at.slice_bounds-settle-end-7 c).Start).right-in
-
-pub slice_bounds-settle-end-8 : goal.slice_bounds-settle-end-8
-slice_bounds-settle-end-8 c = sym (length-take-le _ _ (parts (goal.at.slice_bounds-settle-end-8 c).Start).right-in)
-
 pub settle-r-requires : goal.settle-r-requires
 settle-r-requires c = record { fitted = fitted _ _ _ _ _ _ _ _ _ _ c.requires.flushable c.requires.lent; exact = c.requires.flushable.exact }
 
