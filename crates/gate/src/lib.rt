@@ -177,10 +177,11 @@ pub fn nat(x: i32) -> u32
 }
 
 // Whether it is one of 0 to n - 1.
+// Stays: a comparison, since `usize::try_from` makes the check of a list a sixth dearer.
 pub fn inside(x: i32, n: usize) -> bool
     ensures { result ≡ Numbers.inside x n }
 {
-    usize::try_from(x).is_ok_and(|k| k < n)
+    !x.is_negative() && (x as usize) < n
 }
 
 pub fn same(x: i32, y: i32) -> bool
@@ -315,10 +316,8 @@ impl Fields {
             & (inside(self.first, wires) & ((self.third == 0) & !negative(self.line)))
     }
 
-    // The first that is wrong: 6, 7, the fields from left to right, 9, 18. Not expanded where it is called, so that the check of a list has the quick
-    // test alone in its loop.
-    #[inline(never)]
-    fn failed(self, wires: usize, bits: usize) -> Option<Fault>
+    // The first that is wrong: 6, 7, the fields from left to right, 9, 18.
+    fn fault(self, wires: usize, bits: usize) -> Option<Fault>
         ensures { told result ≡ fault_of self wires bits }
     {
         let c = self.code;
@@ -338,24 +337,27 @@ impl Fields {
         ];
         first_of(&tests)
     }
-
-    // The same; the tests are made only of a gate that is not plain.
-    fn fault(self, wires: usize, bits: usize) -> Option<Fault>
-        ensures { told result ≡ fault_of self wires bits }
-    {
-        if self.plain(wires) {
-            return None;
-        }
-        self.failed(wires, bits)
-    }
 }
 
-// What is wrong with the gate at a place.
-pub fn fault_at(list: &[i32], wires: usize, bits: usize, i: usize) -> Option<Fault>
+// What is wrong with the gate at a place, test by test. Not expanded where it is called: the loop of the check has the quick test alone.
+#[inline(never)]
+fn failed_at(list: &[i32], wires: usize, bits: usize, i: usize) -> Option<Fault>
     requires { width * i + width ≤ length list.now }
     ensures { told result ≡ Refusals.fault_at list.now wires bits i }
 {
     Fields::at(list, i).fault(wires, bits)
+}
+
+// What is wrong with the gate at a place. The tests are made only of a gate that is not plain.
+#[inline(always)]
+pub fn fault_at(list: &[i32], wires: usize, bits: usize, i: usize) -> Option<Fault>
+    requires { width * i + width ≤ length list.now }
+    ensures { told result ≡ Refusals.fault_at list.now wires bits i }
+{
+    if Fields::at(list, i).plain(wires) {
+        return None;
+    }
+    failed_at(list, wires, bits, i)
 }
 
 // ---- the check of a list
