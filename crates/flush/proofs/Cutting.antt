@@ -9,7 +9,7 @@ use native.Mathlib.Omega.{arith}
 use lib.IntN.{ℤ}
 use lib.ListN.{length, get_or, take}
 use lib.Seq.{get_or-take, take-take, length-take-le}
-use Rattle.rules.specs.Limits.{width, term_width, step_width}
+use Rattle.rules.specs.Limits.{width, term_width, step_width, max_gates}
 use Rattle.rules.specs.Gate.{Gate}
 use Rattle.rules.specs.Numbers.{gates_of}
 use Rattle.rules.specs.Meaning.{op}
@@ -102,6 +102,55 @@ made-fits bl before after b p h w = go (synth bl) refl
 
 -- ---- the parts that are lent
 
+-- of the rooms that every engine has, whatever stack and matrices it has beside them
+module _ (run place : List ℤ) (b : State.Block) (table room steps : List ℕ) (f : Flushable run b table room) (many : length (gates_of run) ≤ max_gates)
+    (fits : length place ≡ length run) (long : step_width * (length (gates_of run) + 1) ≤ length steps) where
+  pub record Holding : Type 0 where
+    pub names_in : b.wires ≤ length b.names
+    pub rows_in : b.wires ≤ length b.rows
+    pub terms-in : term_width * b.terms ≤ length room
+    pub steps-in : step_width * (length (gates_of run) + 1) ≤ length steps
+
+  pub holding : Holding
+  holding =
+      let j = f.holds.rows_are.joins in
+      record {
+        names_in = omega (arith, j.few, j.room);
+        rows_in = omega (arith, j.few, f.holds.rows_are.wide, row_count b.rows);
+        terms-in = omega (arith, f.holds.terms-are.few, room-length room);
+        steps-in = long;
+      }
+
+  -- a stack and matrices that are enough for this block
+  pub fitted-by : (nodes : List Slot) (held right : List Parity) → b.wires + 1 ≤ length nodes → b.wires ≤ length held → b.wires ≤ length right
+      → Fitted run place b (take (term_width * b.terms) room) (take (b.wires + 1) nodes)
+      (take b.wires held) (take b.wires right) (take (step_width * (length (gates_of run) + 1)) steps)
+  fitted-by nodes held right ln lh lr =
+      let n : ℕ = b.wires in
+      let j = f.holds.rows_are.joins in
+      let same : block_at b room ≡ block_of (gates_of run) = holds_same f.holds in
+      let t : b.terms ≤ length (terms_of room) = f.holds.terms-are.few in
+      let size : length (names_of b) ≡ n = length-take-le n b.names holding.names_in in
+      record {
+        many = many;
+        fits = fits;
+        same = block-cut b room t ∙ same;
+        rooms = record {
+          walkable = record {
+            few = j.few;
+            named = size;
+            wired = λ i h. let k : i < n = omega (arith, size) in rw (get_or-take n b.names i 0 k) (omega (arith, j.inside i k, f.wires));
+            terms = omega (arith, ap length (room_take b.terms room t) ∙ length-take-le b.terms (terms_of room) t);
+            deep = omega (arith, length-take-le (n + 1) nodes ln);
+            held = length-take-le n held lh;
+          };
+          wide = length-take-le n b.rows holding.rows_in;
+          below = λ i h. rw (row-take n b.rows, get_or-take n (rows_of b.rows) i 0 h) (block-below run b room same i h);
+          right = length-take-le n right lr;
+          long = omega (arith, length-take-le (step_width * (length (gates_of run) + 1)) steps holding.steps-in);
+        };
+      }
+
 module _ (run place : List ℤ) (b : State.Block) (table room : List ℕ) (nodes : List Slot) (held right : List Parity) (steps : List ℕ)
     (f : Flushable run b table room) (l : Lent run place nodes held right steps) where
   -- each room has the part that the block needs
@@ -116,41 +165,18 @@ module _ (run place : List ℤ) (b : State.Block) (table room : List ℕ) (nodes
 
   pub enough : Enough
   enough =
-      let j = f.holds.rows_are.joins in
+      let few = f.holds.rows_are.joins.few in
+      let h = holding run place b table room steps f l.many l.fits l.long in
       record {
-        names_in = omega (arith, j.few, j.room);
-        rows_in = omega (arith, j.few, f.holds.rows_are.wide, row_count b.rows);
-        terms-in = omega (arith, f.holds.terms-are.few, room-length room);
-        nodes-in = omega (arith, j.few, l.work.deep);
-        held_in = omega (arith, j.few, l.work.held);
-        right-in = omega (arith, j.few, l.work.right);
-        steps-in = l.long;
+        names_in = h.names_in;
+        rows_in = h.rows_in;
+        terms-in = h.terms-in;
+        nodes-in = omega (arith, few, l.work.deep);
+        held_in = omega (arith, few, l.work.held);
+        right-in = omega (arith, few, l.work.right);
+        steps-in = h.steps-in;
       }
 
   pub fitted : Fitted run place b (take (term_width * b.terms) room) (take (b.wires + 1) nodes)
       (take b.wires held) (take b.wires right) (take (step_width * (length (gates_of run) + 1)) steps)
-  fitted =
-      let n : ℕ = b.wires in
-      let j = f.holds.rows_are.joins in
-      let same : block_at b room ≡ block_of (gates_of run) = holds_same f.holds in
-      let t : b.terms ≤ length (terms_of room) = f.holds.terms-are.few in
-      let size : length (names_of b) ≡ n = length-take-le n b.names enough.names_in in
-      record {
-        many = l.many;
-        fits = l.fits;
-        same = block-cut b room t ∙ same;
-        rooms = record {
-          walkable = record {
-            few = j.few;
-            named = size;
-            wired = λ i h. let k : i < n = omega (arith, size) in rw (get_or-take n b.names i 0 k) (omega (arith, j.inside i k, f.wires));
-            terms = omega (arith, ap length (room_take b.terms room t) ∙ length-take-le b.terms (terms_of room) t);
-            deep = omega (arith, length-take-le (n + 1) nodes enough.nodes-in);
-            held = length-take-le n held enough.held_in;
-          };
-          wide = length-take-le n b.rows enough.rows_in;
-          below = λ i h. rw (row-take n b.rows, get_or-take n (rows_of b.rows) i 0 h) (block-below run b room same i h);
-          right = length-take-le n right enough.right-in;
-          long = omega (arith, length-take-le (step_width * (length (gates_of run) + 1)) steps enough.steps-in);
-        };
-      }
+  fitted = fitted-by run place b table room steps f l.many l.fits l.long nodes held right enough.nodes-in enough.held_in enough.right-in
